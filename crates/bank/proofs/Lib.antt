@@ -1,0 +1,5 @@
+pub mod Tests
+pub mod Counts
+pub mod Moves
+pub mod Sorted
+pub mod History

@@ -1,0 +1,4 @@
+pub mod Lists
+pub mod Bank
+pub mod Calls
+pub mod History

@@ -1,0 +1,23 @@
+-- `inside::moved` meets its contract. Assumes nothing.
+use native.Mathlib.Omega.{arith}
+use borrow.Author.Needs.{needs}
+use Rattle.nibbles.proofs.Nibbles.{turned-lt, wider}
+use Rattle.nibbles.proofs.Words.{slots-lt, moved-here}
+use Rattle.nibbles.proofs.inside.moved.Statement.{statement}
+use Rattle.nibbles.proofs.inside.moved.Tie as tie
+
+turn-requires : tie.Need-turn-requires
+turn-requires c κs =
+    let p = c .before .pre in
+    (p .0, p .1, p .2, p .3, rw (c .high .ensures) (slots-lt _ _ (p .5)))
+
+join-requires : tie.Need-join-requires
+join-requires c κs =
+    let s = c .before .before in
+    (omega arith, s .pre .4, wider (s .args .width) 15 (s .pre .3) (turned-lt _ _ _ _ _ (s .pre .0) (s .pre .1) (c .turn .ensures)))
+
+returns : tie.Need-returns
+returns c = rw (c .join .ensures, ← c .before .before .high .ensures) (moved-here _ _ (c .before .turn .ensures))
+
+pub moved-spec : {M : Type 1} → statement M
+moved-spec = tie.close (tie.spec (λ c κs. search needs) turn-requires join-requires returns)

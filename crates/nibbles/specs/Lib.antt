@@ -1,0 +1,3 @@
+pub mod Nibbles
+pub mod Words
+pub mod Judged

@@ -1,0 +1,69 @@
+-- The order of the slots handed out, from what `make_sorted` and `empty` answer. Assumes nothing.
+use mathlib.Core.Path.{_≡_, refl, sym, ap, _∙_}
+use mathlib.Core.Bool.{Bool, true, false, _&&_}
+use mathlib.Core.List.{List, [], _∷_, _++_}
+use Prim.Native.Nat.{ℕ, _-_, _≤_, _<_}
+use native.Mathlib.Omega.{arith}
+use lib.ListN.{length, getD, take, length-take}
+use lib.Seq.{getD-take}
+use lib.Dec.{leb}
+use borrow.Author.Tests.{leb-true, le-leb}
+use Rattle.refusal.specs.Answer.{Answer, accepted, pick}
+use Rattle.bank.specs.Lists.{up}
+use Rattle.bank.specs.Bank.{sorted}
+use Rattle.bank.specs.History.{Step, ran}
+use Rattle.nibbles.specs.Words.{wordOf}
+use Rattle.permuter.specs.Words.{madeSorted, madeEmpty}
+use Rattle.permuter.specs.History.{wordDoes}
+use Rattle.permuter.proofs.History as history
+
+-- what an accepted make_sorted says of its arguments and its word
+record Started (w n start : ℕ) : Type 0 where
+  pub least : 1 ≤ w
+  pub most : w ≤ 15
+  pub taken : n ≤ w
+  pub word : start ≡ wordOf (sorted w n)
+
+started : (w n start : ℕ) → madeSorted w n ≡ accepted (start ∷ []) → Started w n start
+unfolding madeSorted
+started w n start = by (leb 1 w) (leb w 15) (leb n w) (leb-true 1 w) (leb-true w 15) (leb-true n w)
+  where
+    by : (p q r : Bool) → (p ≡ true → 1 ≤ w) → (q ≡ true → w ≤ 15) → (r ≡ true → n ≤ w)
+        → pick (p && q) (pick r (accepted (wordOf (sorted w n) ∷ [])) (record { number = 4; values = [] }))
+        (record { number = 1; values = [] }) ≡ accepted (start ∷ [])
+        → Started w n start
+    by true true true f g h e =
+        record { least = f refl; most = g refl; taken = h refl; word = sym (ap (λ (a : Answer). getD (a .values) 0 0) e) }
+    by true true false f g h e = absurd (let z : _≡_ {A = ℕ} 4 0 = ap (λ (a : Answer). a .number) e in omega arith)
+    by true false r f g h e = absurd (let z : _≡_ {A = ℕ} 1 0 = ap (λ (a : Answer). a .number) e in omega arith)
+    by false q r f g h e = absurd (let z : _≡_ {A = ℕ} 1 0 = ap (λ (a : Answer). a .number) e in omega arith)
+
+pub in-order : (w n start : ℕ) → madeSorted w n ≡ accepted (start ∷ []) → (steps : List Step)
+    → ran (wordDoes w) steps start .handed ≡ take (length (ran (wordDoes w) steps start .handed))
+    (up n (w - n) ++ ran (wordDoes w) steps start .released)
+in-order w n start e steps =
+    let s = started w n start e in
+    rw (s .word) (history.handed-out w n (s .least) (s .most) (s .taken) steps)
+
+-- the k-th of a list that is the beginning of another
+of-prefix : (xs ys : List ℕ) → xs ≡ take (length xs) ys → (k : ℕ) → k < length xs → (k < length ys) × (getD xs k 0 ≡ getD ys k 0)
+of-prefix xs ys e k h =
+    (omega (arith, ap length e ∙ length-take (length xs) ys), ap (λ (l : List ℕ). getD l k 0) e ∙ getD-take (length xs) ys k 0 h)
+
+pub kth : (w n start : ℕ) → madeSorted w n ≡ accepted (start ∷ []) → (steps : List Step) (k : ℕ)
+    → k < length (ran (wordDoes w) steps start .handed)
+    → (k < length (up n (w - n) ++ ran (wordDoes w) steps start .released))
+    × (getD (ran (wordDoes w) steps start .handed) k 0 ≡ getD (up n (w - n) ++ ran (wordDoes w) steps start .released) k 0)
+kth w n start e steps =
+    of-prefix (ran (wordDoes w) steps start .handed) (up n (w - n) ++ ran (wordDoes w) steps start .released) (in-order w n start e steps)
+
+-- the empty word is the sorted one with none taken
+empty-sorted : (w start : ℕ) → madeEmpty w ≡ accepted (start ∷ []) → madeSorted w 0 ≡ accepted (start ∷ [])
+unfolding madeEmpty madeSorted
+empty-sorted w start e = rw (le-leb 0 w (omega arith)) e
+
+pub kth-from-empty : (w start : ℕ) → madeEmpty w ≡ accepted (start ∷ []) → (steps : List Step) (k : ℕ)
+    → k < length (ran (wordDoes w) steps start .handed)
+    → (k < length (up 0 (w - 0) ++ ran (wordDoes w) steps start .released))
+    × (getD (ran (wordDoes w) steps start .handed) k 0 ≡ getD (up 0 (w - 0) ++ ran (wordDoes w) steps start .released) k 0)
+kth-from-empty w start e = kth w 0 start (empty-sorted w start e)

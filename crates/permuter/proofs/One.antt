@@ -1,0 +1,53 @@
+-- An answer is known by what it says: each contract leaves one outcome. Assumes nothing.
+use mathlib.Core.Path.{_≡_, sym, ap, ap₂}
+use Prim.Native.Nat.{ℕ}
+use native.Mathlib.Omega.{arith}
+use lib.ListN.{getD}
+use Rattle.refusal.specs.Answer.{Answer}
+use Rattle.refusal.specs.declared.Refusal.{Refusal}
+use Rattle.refusal.specs.Refusals.{numberOf}
+use Rattle.refusal.proofs.Laws.{number-one, number-pos}
+use Rattle.permuter.specs.declared.Changed.{Changed}
+use Rattle.permuter.specs.declared.Changed.the-variants as C
+use Rattle.permuter.specs.declared.Inserted.{Inserted}
+use Rattle.permuter.specs.declared.Inserted.the-variants as I
+use Rattle.permuter.specs.declared.Told.{Told}
+use Rattle.permuter.specs.declared.Told.the-variants as T
+use Rattle.permuter.specs.declared.Made.{Made}
+use Rattle.permuter.specs.declared.Made.the-variants as M
+use Rattle.permuter.specs.Answers.{saidChanged, saidInserted, saidTold, saidMade}
+
+-- the number and the values of equal answers
+number-of : {a b : Answer} → a ≡ b → a .number ≡ b .number
+number-of e = ap (λ (x : Answer). x .number) e
+
+value-of : (k : ℕ) {a b : Answer} → a ≡ b → getD (a .values) k 0 ≡ getD (b .values) k 0
+value-of k e = ap (λ (x : Answer). getD (x .values) k 0) e
+
+-- an accepted answer is no refusal
+differ : (why : Refusal) → 0 ≡ numberOf why → ⊥
+differ why e = omega (arith, number-pos why)
+
+pub changed-one : (x y : Changed) → saidChanged x ≡ saidChanged y → x ≡ y
+changed-one (C.Word a) (C.Word b) e = ap C.Word (value-of 0 e)
+changed-one (C.Word a) (C.Refused r b) e = absurd (differ r (number-of e))
+changed-one (C.Refused r a) (C.Word b) e = absurd (differ r (sym (number-of e)))
+changed-one (C.Refused r a) (C.Refused q b) e = ap₂ C.Refused (number-one r q (number-of e)) (value-of 0 e)
+
+pub inserted-one : (x y : Inserted) → saidInserted x ≡ saidInserted y → x ≡ y
+inserted-one (I.Slot a s) (I.Slot b t) e = ap₂ I.Slot (value-of 0 e) (value-of 1 e)
+inserted-one (I.Slot a s) (I.Refused r b) e = absurd (differ r (number-of e))
+inserted-one (I.Refused r a) (I.Slot b t) e = absurd (differ r (sym (number-of e)))
+inserted-one (I.Refused r a) (I.Refused q b) e = ap₂ I.Refused (number-one r q (number-of e)) (value-of 0 e)
+
+pub told-one : (x y : Told) → saidTold x ≡ saidTold y → x ≡ y
+told-one (T.Number a) (T.Number b) e = ap T.Number (value-of 0 e)
+told-one (T.Number a) (T.Refused r b) e = absurd (differ r (number-of e))
+told-one (T.Refused r a) (T.Number b) e = absurd (differ r (sym (number-of e)))
+told-one (T.Refused r a) (T.Refused q b) e = ap₂ T.Refused (number-one r q (number-of e)) (value-of 0 e)
+
+pub made-one : (x y : Made) → saidMade x ≡ saidMade y → x ≡ y
+made-one (M.Word a) (M.Word b) e = ap M.Word (value-of 0 e)
+made-one (M.Word a) (M.Refused r) e = absurd (differ r (number-of e))
+made-one (M.Refused r) (M.Word b) e = absurd (differ r (sym (number-of e)))
+made-one (M.Refused r) (M.Refused q) e = ap M.Refused (number-one r q (number-of e))

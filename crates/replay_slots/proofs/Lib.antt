@@ -1,0 +1,3 @@
+mod Says
+mod Fields
+mod Agreement
