@@ -1,0 +1,4 @@
+pub mod Fitting
+pub mod Calls
+pub mod One
+pub mod Layers

@@ -1,0 +1,5 @@
+pub mod Compare
+pub mod Bytes
+pub mod Layer
+pub mod Map
+pub mod Lookup

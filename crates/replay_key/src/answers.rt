@@ -1,0 +1,248 @@
+// Each call on a key, and its answer as a number and three values.
+use ikey::Ordering;
+use ikey::Whole;
+use key::Compared;
+use key::Count;
+use key::Judged;
+use key::Layer;
+use key::Made;
+use key::Moved;
+use key::Told;
+use key::Word;
+use refusal::Refusal;
+
+pub struct Said {
+    pub number: u64,
+    pub a: u64,
+    pub b: u64,
+    pub c: u64,
+}
+
+fn value(a: u64) -> Said {
+    Said {
+        number: 0,
+        a,
+        b: 0,
+        c: 0,
+    }
+}
+
+fn layer(k: Layer) -> Said {
+    Said {
+        number: 0,
+        a: k.ikey,
+        b: k.shift_count as u64,
+        c: k.suffix_start as u64,
+    }
+}
+
+fn refused(why: Refusal, k: Layer) -> Said {
+    Said {
+        number: refusal::number(why),
+        a: k.ikey,
+        b: k.shift_count as u64,
+        c: k.suffix_start as u64,
+    }
+}
+
+fn nothing(why: Refusal) -> Said {
+    Said {
+        number: refusal::number(why),
+        a: 0,
+        b: 0,
+        c: 0,
+    }
+}
+
+fn order(o: Ordering) -> u64 {
+    match o {
+        Ordering::Less => 0,
+        Ordering::Equal => 1,
+        Ordering::Greater => 2,
+    }
+}
+
+fn made(r: Made) -> Said {
+    match r {
+        Made::At(k) => layer(k),
+        Made::Refused(why) => nothing(why),
+    }
+}
+
+fn moved(r: Moved) -> Said {
+    match r {
+        Moved::At(k) => layer(k),
+        Moved::Refused(why, k) => refused(why, k),
+    }
+}
+
+fn count(r: Count) -> Said {
+    match r {
+        Count::Is(n) => value(n as u64),
+        Count::Refused(why, k) => refused(why, k),
+    }
+}
+
+fn word(r: Word) -> Said {
+    match r {
+        Word::Is(w) => value(w),
+        Word::Refused(why, k) => refused(why, k),
+    }
+}
+
+fn flag(b: bool) -> u64 {
+    if b { 1 } else { 0 }
+}
+
+fn told(r: Told) -> Said {
+    match r {
+        Told::Is(b) => value(flag(b)),
+        Told::Refused(why, k) => refused(why, k),
+    }
+}
+
+fn compared(r: Compared) -> Said {
+    match r {
+        Compared::Is(o) => value(order(o)),
+        Compared::Refused(why, k) => refused(why, k),
+    }
+}
+
+fn whole(r: Whole) -> Said {
+    match r {
+        Whole::Is(o) => value(order(o)),
+        Whole::Refused(why) => nothing(why),
+    }
+}
+
+// A part, by its length and a sum over its bytes; or the refusal of its key.
+fn part(r: Judged, s: &[u8]) -> Said {
+    match r {
+        Judged::Fits => Said {
+            number: 0,
+            a: s.len() as u64,
+            b: sum(s),
+            c: 0,
+        },
+        Judged::Refused(why, k) => refused(why, k),
+    }
+}
+
+fn wide(x: u8) -> u64 {
+    x as u64
+}
+
+fn sum(s: &[u8]) -> u64 {
+    let mut x: u64 = 1;
+    let mut i: usize = 0;
+    while i < s.len() {
+        x = mix(x, wide(s[i]));
+        i += 1;
+    }
+    x
+}
+
+fn mix(x: u64, b: u64) -> u64 {
+    (x % 65521 * 31 + b % 256 + 1) % 65521
+}
+
+fn none() -> Layer {
+    Layer {
+        ikey: 0,
+        shift_count: 0,
+        suffix_start: 0,
+    }
+}
+
+// The key of a at a layer. A key that is too long has no numbers: zeros.
+fn reach(a: &[u8], layer: u8) -> Layer {
+    let Made::At(k) = key::new(a) else {
+        return none();
+    };
+    let Moved::At(l) = key::shift_by(a, k.ikey, k.shift_count, k.suffix_start, layer as usize * 8)
+    else {
+        return none();
+    };
+    l
+}
+
+fn plain(op: u8, a: &[u8], k: Layer) -> Said {
+    match op {
+        2 => count(key::len(a, k.ikey, k.shift_count, k.suffix_start)),
+        3 => word(key::ikey(a, k.ikey, k.shift_count, k.suffix_start)),
+        4 => count(key::shift_count(a, k.ikey, k.shift_count, k.suffix_start)),
+        5 => count(key::suffix_start(a, k.ikey, k.shift_count, k.suffix_start)),
+        6 => count(key::current_len(a, k.ikey, k.shift_count, k.suffix_start)),
+        _ => count(key::suffix_len(a, k.ikey, k.shift_count, k.suffix_start)),
+    }
+}
+
+fn tests(op: u8, a: &[u8], k: Layer) -> Said {
+    match op {
+        8 => told(key::is_empty(a, k.ikey, k.shift_count, k.suffix_start)),
+        9 => told(key::is_shifted(a, k.ikey, k.shift_count, k.suffix_start)),
+        _ => told(key::has_suffix(a, k.ikey, k.shift_count, k.suffix_start)),
+    }
+}
+
+fn moves(op: u8, a: &[u8], k: Layer, by: u64) -> Said {
+    match op {
+        11 => moved(key::shift(a, k.ikey, k.shift_count, k.suffix_start)),
+        12 => moved(key::shift_by(a, k.ikey, k.shift_count, k.suffix_start, by as usize)),
+        13 => moved(key::unshift(a, k.ikey, k.shift_count, k.suffix_start)),
+        _ => moved(key::unshift_all(a, k.ikey, k.shift_count, k.suffix_start)),
+    }
+}
+
+fn suffixed(a: &[u8], k: Layer) -> Said {
+    let i = k.ikey;
+    let s = k.shift_count;
+    let p = k.suffix_start;
+    part(key::judge(a, i, s, p), key::suffix(a, i, s, p))
+}
+
+fn data(a: &[u8], k: Layer) -> Said {
+    let i = k.ikey;
+    let s = k.shift_count;
+    let p = k.suffix_start;
+    part(key::judge(a, i, s, p), key::full_data(a, i, s, p))
+}
+
+fn on_key(op: u8, a: &[u8], b: &[u8], k: Layer, x: u64, y: u64) -> Said {
+    if op < 8 {
+        return plain(op, a, k);
+    }
+    if op < 11 {
+        return tests(op, a, k);
+    }
+    if op < 15 {
+        return moves(op, a, k, x);
+    }
+    if op == 15 {
+        return suffixed(a, k);
+    }
+    if op == 16 {
+        return data(a, k);
+    }
+    if op == 17 {
+        return compared(key::compare(a, k.ikey, k.shift_count, k.suffix_start, x, y as usize));
+    }
+    compared(key::compare_suffix(a, k.ikey, k.shift_count, k.suffix_start, b))
+}
+
+// The answer of a call: its number in the sample, two keys, a layer and two arguments.
+pub(crate) fn answer(op: u8, a: &[u8], b: &[u8], layer: u8, x: u64, y: u64) -> Said {
+    if op == 0 {
+        return value(ikey::read_ikey(a, x as usize));
+    }
+    if op == 1 {
+        return made(key::new(a));
+    }
+    if op == 19 {
+        return value(order(ikey::compare_ikey(x, y)));
+    }
+    if op == 20 {
+        return whole(ikey::compare_keys(a, b));
+    }
+    on_key(op, a, b, reach(a, layer), x, y)
+}

@@ -1,0 +1,118 @@
+// One record: a call, its keys and arguments, and the answer that the Rust gave.
+ghost use Prim.Native.Nat.{_+_, _^_, _<_};
+ghost use Rattle.io.specs.Counts.{Counts};
+use crate::answers::Said;
+use crate::answers::answer;
+
+// The byte at i, or 0.
+fn byte(s: &[u8], i: usize) -> u8 {
+    if i < s.len() {
+        return s[i];
+    }
+    0
+}
+
+fn wide(x: u8) -> u64
+    ensures { λ r. ⌜ r < 256 ⌝ }
+{
+    x as u64
+}
+
+// Two, four and eight bytes from i on, the first one highest.
+fn two(s: &[u8], i: usize) -> u64
+    requires { ⌜ i < 4096 ⌝ }
+    ensures { λ r. ⌜ r < 65536 ⌝ }
+{
+    wide(byte(s, i)) * 256 + wide(byte(s, i + 1))
+}
+
+fn four(s: &[u8], i: usize) -> u64
+    requires { ⌜ i < 4000 ⌝ }
+    ensures { λ r. ⌜ r < 2 ^ 32 ⌝ }
+{
+    two(s, i) * 65536 + two(s, i + 2)
+}
+
+fn eight(s: &[u8], i: usize) -> u64
+    requires { ⌜ i < 3000 ⌝ }
+{
+    four(s, i) * 0x1_0000_0000 + four(s, i + 4)
+}
+
+fn put(out: &mut [u8], i: usize, x: u8) {
+    if i < out.len() {
+        out[i] = x;
+    }
+}
+
+// The number after x, and the byte that it stands for.
+fn stir(x: u64) -> u64 {
+    (x % 65537 * 75 + 74) % 65537
+}
+
+fn low(x: u64) -> u8 {
+    (x % 256) as u8
+}
+
+// A byte of a key of that kind.
+fn choose(kind: u8, seed: u8, x: u64) -> u8 {
+    if kind == 0 {
+        return seed;
+    }
+    low(x)
+}
+
+// The bytes of a key: all the same, or stirred from a seed; then one of them changed.
+fn build(rec: &[u8], from: usize, out: &mut [u8]) -> usize
+    requires { ⌜ from < 1000 ⌝ }
+    ensures { λ r. ⌜ Counts r (now (out .exit)) ⌝ }
+{
+    let n = two(rec, from) as usize;
+    if out.len() < n {
+        return 0;
+    }
+    let kind = byte(rec, from + 2);
+    let seed = byte(rec, from + 3);
+    let mut x = wide(seed);
+    let mut i: usize = 0;
+    while i < n {
+        x = stir(x);
+        put(out, i, choose(kind, seed, x));
+        i += 1;
+    }
+    let at = two(rec, from + 4) as usize;
+    if at < n {
+        put(out, at, byte(rec, from + 6));
+    }
+    n
+}
+
+// The answer of the recorded call is the recorded one.
+pub(crate) fn agrees(rec: &[u8]) -> bool {
+    let mut a = [0u8; 300];
+    let mut b = [0u8; 300];
+    let m = build(rec, 1, &mut a);
+    let n = build(rec, 8, &mut b);
+    let said = answer(
+        byte(rec, 0),
+        &a[..m],
+        &b[..n],
+        byte(rec, 15),
+        eight(rec, 16),
+        eight(rec, 24),
+    );
+    same(rec, said)
+}
+
+fn same(rec: &[u8], said: Said) -> bool {
+    if said.number != wide(byte(rec, 32)) {
+        return false;
+    }
+    if said.a != eight(rec, 40) {
+        return false;
+    }
+    if said.b != eight(rec, 48) {
+        return false;
+    }
+    said.c == eight(rec, 56)
+}
