@@ -1,0 +1,5 @@
+pub mod Lists
+pub mod Node
+pub mod Split
+pub mod Answers
+pub mod Calls

@@ -1,0 +1,12 @@
+pub mod Lists
+pub mod Orders
+pub mod Views
+pub mod Judged
+pub mod Searches
+pub mod One
+pub mod Rules
+pub mod Leaves
+pub mod Rises
+pub mod Cuts
+pub mod Meaning
+pub mod SameKey

@@ -1,0 +1,250 @@
+-- A law for each way in which a search returns. Assumes nothing.
+use Prim.Native.Nat.{ℕ, _+_, _*_, _-_, _%_, _≤_, _<_, min, Ordering, Ordering·gt}
+use mathlib.Core.Path.{_≡_, refl, sym, ap, ap₂, _∙_}
+use mathlib.Core.Bool.{Bool, true, false, not}
+use mathlib.Core.List.{List, [], _∷_}
+use native.Mathlib.Omega.{arith}
+use native.Mathlib.Decide.{decLt}
+use lib.Dec.{isEq}
+use lib.ListN.{length, getD, take, drop}
+use lib.Seq.{drop-drop}
+use borrow.Author.Count.{below-more}
+use borrow.Author.Needs.{needs}
+use borrow.Author.Tests.{lt-ltb, le-ltb, eq-eqb, ne-eqb, not-true, not-false}
+use Rattle.refusal.specs.Answer.{Answer, accepted, refused}
+use Rattle.refusal.specs.declared.Refusal.the-variants.{Node, Key, Memory}
+use Rattle.bank.specs.Bank.{slotAt}
+use Rattle.bank.proofs.Moves.{drop-take}
+use Rattle.nibbles.specs.Words.{validWord}
+use Rattle.order.specs.Bytes.{bytewise}
+use Rattle.order.specs.Layer.{classOf, classAt}
+use Rattle.ikey.specs.declared.Ordering.{Ordering as Ordered}
+use Rattle.ikey.specs.declared.Ordering.the-variants.{Less, Equal, Greater}
+use Rattle.ikey.specs.Said.{orderOf}
+use Rattle.ikey.proofs.Ikeys.{rest-of}
+use Rattle.key.specs.Keys.{fits}
+use Rattle.key.proofs.Fitting.{suffix-within}
+use Rattle.leaf.specs.declared.Entry.{Entry}
+use Rattle.leaf.specs.Leaf.{none, slotsOf, inOrder, against, isLess, lentRight, Lent, Cell, ofKind, goodEntries}
+use Rattle.leaf.specs.Search.{
+  found,
+  conflict,
+  layer,
+  notFound,
+  storedSuffix,
+  sameBytes,
+  metWith,
+  placeEqual,
+  placeGreater,
+  outcome,
+  searchSaid,
+  unlentSaid,
+  lentSaid,
+  Searchable,
+}
+use Rattle.leaf.proofs.Lists.{every-at, first-at, first-none}
+use Rattle.leaf.proofs.Orders.{all-above}
+use Rattle.leaf.proofs.Views.{length-in-order, entry-in-order}
+use Rattle.leaf.proofs.Judged.{lent-right, cell-right, kind-has-cell, good-parts}
+
+-- ---- the stored suffix
+
+-- from a start on, or from the end where that is nearer
+part-from : (bytes : List ℕ) (a n start m : ℕ) → m ≡ min start n
+    → take (a + n - (a + m)) (drop (a + m) bytes) ≡ drop start (take n (drop a bytes))
+part-from bytes a n start m e =
+    elim (decLt n start) [
+      | yes l ↦
+          ap (λ (k : ℕ). take k (drop (a + m) bytes)) (let z : a + n - (a + m) ≡ 0 = omega arith in z)
+          ∙ ap (λ (k : ℕ). take k (drop start (drop a bytes))) (let z : 0 ≡ n - start = omega arith in z)
+          ∙ sym (drop-take start n (drop a bytes))
+      | no l ↦
+          ap₂ (λ (k j : ℕ). take k (drop j bytes)) (let z : a + n - (a + m) ≡ n - start = omega arith in z) (let z : a + m ≡ a + start = omega arith in z)
+          ∙ ap (take (n - start)) (sym (drop-drop start a bytes))
+          ∙ sym (drop-take start n (drop a bytes))
+    ]
+
+module _ (cells bytes : List ℕ) (cell : ℕ) (key : List ℕ) (start : ℕ) (r : Ordered) {m : ℕ} (e : m ≡ min start (getD cells (2 * cell) 0 - 1))
+    (o : orderOf r ≡ bytewise (take (256 * cell + (getD cells (2 * cell) 0 - 1) - (256 * cell + m)) (drop (256 * cell + m) bytes)) (take (length key - start) (drop start key))) where
+  suffixes : orderOf r ≡ bytewise (storedSuffix cells bytes cell start) (drop start key)
+  unfolding storedSuffix
+  suffixes = o ∙ ap₂ bytewise (part-from bytes (256 * cell) (getD cells (2 * cell) 0 - 1) start m e) (rest-of key start)
+
+  pub suffix-less : r ≡ Less → false ≡ sameBytes (storedSuffix cells bytes cell start) (drop start key)
+  suffix-less q = rw (← suffixes, q)
+
+  pub suffix-equal : r ≡ Equal → true ≡ sameBytes (storedSuffix cells bytes cell start) (drop start key)
+  suffix-equal q = rw (← suffixes, q)
+
+  pub suffix-greater : r ≡ Greater → false ≡ sameBytes (storedSuffix cells bytes cell start) (drop start key)
+  suffix-greater q = rw (← suffixes, q)
+
+-- ---- the entry that has the key's ikey and class
+
+module _ (cells bytes key : List ℕ) (start : ℕ) (e : Entry) (slot : ℕ) where
+  pub met-layer : e .class ≡ 10 → accepted (layer slot) ≡ accepted (metWith cells bytes key start e slot)
+  unfolding metWith
+  met-layer h = rw (eq-eqb (e .class) 10 h)
+
+  module _ (h : e .class ≡ 10 → ⊥) where
+    pub met-short : (e .class ≡ 9 → ⊥) → accepted (found slot) ≡ accepted (metWith cells bytes key start e slot)
+    unfolding metWith
+    met-short q = rw (ne-eqb (e .class) 10 h, ne-eqb (e .class) 9 q)
+
+    module _ (q : e .class ≡ 9) {r : Bool} (d : r ≡ sameBytes (storedSuffix cells bytes (e .at) start) (drop start key)) where
+      pub met-found : r ≡ true → accepted (found slot) ≡ accepted (metWith cells bytes key start e slot)
+      unfolding metWith
+      met-found t = rw (ne-eqb (e .class) 10 h, eq-eqb (e .class) 9 q, ← d, t)
+
+      pub met-conflict : r ≡ false → accepted (conflict slot) ≡ accepted (metWith cells bytes key start e slot)
+      unfolding metWith
+      met-conflict t = rw (ne-eqb (e .class) 10 h, eq-eqb (e .class) 9 q, ← d, t)
+
+-- its suffixes may be compared
+pub met-suffix : (cells bytes key : List ℕ) (start : ℕ) (e : Entry) → lentRight cells bytes ≡ true → ofKind cells e ≡ true → (e .class ≡ 10 → ⊥)
+    → start ≤ length key → Lent cells bytes × Cell cells (e .at) × (start ≤ length key)
+met-suffix cells bytes key start e l k q h = (lent-right cells bytes l, cell-right cells (e .at) (kind-has-cell cells e k q), h)
+
+-- ---- the scan
+
+-- a key that fits has its suffix within its bytes
+pub start-within : (key : List ℕ) (ikey shifts start : ℕ) → fits key ikey shifts start ≡ true → start ≤ length key
+start-within key ikey shifts start e = suffix-within key ikey shifts start refl e
+
+class-small : (key : List ℕ) (offset : ℕ) → classAt key offset < 10
+class-small key offset = omega arith
+
+module _ {word : ℕ} {entries : List Entry} {cells bytes key : List ℕ} {ikey shifts start : ℕ}
+    (s : Searchable word entries cells bytes key ikey shifts start) {size : ℕ} (es : size ≡ word % 16) where
+  abbrev view : List Entry
+  view = inOrder word entries
+
+  abbrev class : ℕ
+  class = classAt key (8 * shifts)
+
+  abbrev answer : List ℕ
+  answer = outcome word entries cells bytes key ikey class start
+
+  abbrev Before : ℕ → Type 0
+  Before i = (k : ℕ) → k < i → against ikey class (getD view k none) ≡ Ordering·gt
+
+  long : length view ≡ size
+  long = length-in-order word (s .word-valid) entries ∙ sym es
+
+  -- none of the entries that the scan went past is equal, or greater
+  not-equal : {o : Ordering} → o ≡ Ordering·gt → isEq o ≡ false
+  not-equal h = rw h
+
+  not-less : {o : Ordering} → o ≡ Ordering·gt → isLess o ≡ false
+  not-less h = rw h
+
+  outcome-none : {p : ℕ} → length view ≡ placeEqual ikey class view → p ≡ placeGreater ikey class view → accepted (notFound p) ≡ accepted answer
+  unfolding outcome
+  outcome-none d e = rw (← d, le-ltb (length view) (length view) (omega arith), e)
+
+  pub scan-end : (i : ℕ) → size ≤ i → i ≤ size → Before i → accepted (notFound i) ≡ accepted answer
+  scan-end i l h f =
+      outcome-none
+      (first-none (λ e. isEq (against ikey class e)) none view (λ k m. not-equal (f k (omega (arith, long)))))
+      ((let z : i ≡ length view = omega (arith, long) in z)
+      ∙ first-none (λ e. isLess (against ikey class e)) none view (λ k m. not-less (f k (omega (arith, long)))))
+
+  module _ (i : ℕ) {slot len : ℕ} (r : Ordered) (el : len ≡ length key - 8 * shifts) (l : i < size) (f : Before i) (d : slot ≡ slotAt i (slotsOf word))
+      (o : orderOf r ≡ against ikey (classOf len) (getD entries slot none)) where
+    here : getD view i none ≡ getD entries slot none
+    here = entry-in-order word (s .word-valid) entries i (omega arith) d
+
+    compared : against ikey class (getD view i none) ≡ orderOf r
+    compared = rw here (sym (o ∙ ap (λ (n : ℕ). against ikey (classOf n) (getD entries slot none)) el))
+
+    pub scan-on : r ≡ Greater → (k : ℕ) → k < i + 1 → against ikey class (getD view k none) ≡ Ordering·gt
+    scan-on q = below-more _ i f (compared ∙ ap orderOf q)
+
+    pub scan-met : {x : Answer} → r ≡ Equal → x ≡ accepted (metWith cells bytes key start (getD entries slot none) slot) → x ≡ accepted answer
+    unfolding outcome
+    scan-met q e =
+        let p : i ≡ placeEqual ikey class view
+        = first-at (λ e. isEq (against ikey class e)) none view i (omega (arith, long)) (λ k m. not-equal (f k m)) (ap isEq (compared ∙ ap orderOf q)) in
+        e ∙ rw (← p, lt-ltb i (length view) (omega (arith, long)), here, ← d)
+
+    -- past an entry that is greater all are, so none is equal
+    apart : r ≡ Less → (k : ℕ) → k < length view → isEq (against ikey class (getD view k none)) ≡ false
+    apart q k m =
+        elim (decLt k i) [
+          | yes n ↦ not-equal (f k n)
+          | no n ↦
+              ap isEq (all-above view (good-parts cells view (s .good) .1) ikey class (class-small key (8 * shifts)) i k (omega arith) m (compared ∙ ap orderOf q))
+        ]
+
+    pub scan-less : r ≡ Less → accepted (notFound i) ≡ accepted answer
+    scan-less q =
+        outcome-none
+        (first-none (λ e. isEq (against ikey class e)) none view (apart q))
+        (first-at (λ e. isLess (against ikey class e)) none view i (omega (arith, long)) (λ k m. not-less (f k m)) (ap isLess (compared ∙ ap orderOf q)))
+
+    pub scan-kind : ofKind cells (getD entries slot none) ≡ true
+    scan-kind = ap (ofKind cells) (sym here) ∙ every-at (ofKind cells) none view (good-parts cells view (s .good) .0) i (omega (arith, long))
+
+-- ---- what is refused, and in which order
+
+module _ (word : ℕ) (key : List ℕ) (ikey shifts start : ℕ) {r : Bool} (e : r ≡ fits key ikey shifts start) where
+  pub unlent-key : not r ≡ true → refused Key (word ∷ []) ≡ unlentSaid word key ikey shifts start
+  unfolding unlentSaid
+  unlent-key q = rw (← e, not-true r q)
+
+  pub unlent-memory : not r ≡ false → refused Memory (word ∷ []) ≡ unlentSaid word key ikey shifts start
+  unfolding unlentSaid
+  unlent-memory q = rw (← e, not-false r q)
+
+pub told-yes : {r b : Bool} → r ≡ b → not r ≡ false → b ≡ true
+told-yes {r} e q = sym e ∙ not-false r q
+
+module _ (word : ℕ) (entries : List Entry) (cells bytes key : List ℕ) (ikey shifts start : ℕ) {g : Bool} (eg : g ≡ goodEntries cells (inOrder word entries)) where
+  abbrev among : Answer
+  among = lentSaid word entries cells bytes key ikey shifts start
+
+  pub lent-bad : not g ≡ true → refused Node (word ∷ []) ≡ among
+  unfolding lentSaid
+  lent-bad q = rw (← eg, not-true g q)
+
+  module _ (qg : not g ≡ false) {f : Bool} (ef : f ≡ fits key ikey shifts start) where
+    pub lent-key : not f ≡ true → refused Key (word ∷ []) ≡ among
+    unfolding lentSaid
+    lent-key q = rw (← eg, not-false g qg, ← ef, not-true f q)
+
+    pub lent-searchable : not f ≡ false → validWord 15 word ≡ true → lentRight cells bytes ≡ true → Searchable word entries cells bytes key ikey shifts start
+    lent-searchable q v l = record { word-valid = v; lent = l; good = told-yes eg qg; fit = told-yes ef q }
+
+    pub lent-outcome : {x : Answer} → not f ≡ false → x ≡ accepted (outcome word entries cells bytes key ikey (classAt key (8 * shifts)) start) → x ≡ among
+    unfolding lentSaid
+    lent-outcome q e = e ∙ rw (← eg, not-false g qg, ← ef, not-false f q)
+
+module _ (word : ℕ) (entries : List Entry) (cells bytes key : List ℕ) (ikey shifts start : ℕ) {v : Bool} (ev : v ≡ validWord 15 word) where
+  abbrev said : Answer
+  said = searchSaid word entries cells bytes key ikey shifts start
+
+  pub said-word : not v ≡ true → refused Node (word ∷ []) ≡ said
+  unfolding searchSaid
+  said-word q = rw (← ev, not-true v q)
+
+  module _ (qv : not v ≡ false) {l : Bool} (el : l ≡ lentRight cells bytes) {x : Answer} where
+    pub said-unlent : not l ≡ true → x ≡ unlentSaid word key ikey shifts start → x ≡ said
+    unfolding searchSaid unlentSaid
+    said-unlent q e = e ∙ rw (← ev, not-false v qv, ← el, not-true l q)
+
+    pub said-lent : not l ≡ false → x ≡ lentSaid word entries cells bytes key ikey shifts start → x ≡ said
+    unfolding searchSaid lentSaid
+    said-lent q e = e ∙ rw (← ev, not-false v qv, ← el, not-false l q)
+
+pub ruleset searches = (
+  needs,
+  suffix-less,
+  suffix-equal,
+  suffix-greater,
+  met-layer,
+  met-short,
+  met-found,
+  met-conflict,
+  unlent-key,
+  unlent-memory,
+)

@@ -1,0 +1,19 @@
+-- `leaf::inside::is_cell` meets its contract. Assumes nothing.
+use Rattle.leaf.proofs.Judged.{judged}
+use borrow.Author.Needs.{needs}
+use Rattle.leaf.proofs.inside.is_cell.Statement.{statement}
+use Rattle.leaf.proofs.inside.is_cell.Tie as tie
+
+returns : tie.Need-returns
+returns c = search judged
+
+returns-2 : tie.Need-returns-2
+returns-2 c = search judged
+
+returns-3 : tie.Need-returns-3
+returns-3 c = search judged
+
+pub is-cell-spec : {M : Type 1} → statement M
+is-cell-spec =
+    tie.close
+    (tie.spec returns (λ c. search needs) (λ c. search needs) (λ c. search needs) returns-2 returns-3)

@@ -1,0 +1,133 @@
+-- The search of a leaf: what it answers, by document 01's numbers.
+use Prim.Native.Nat.{ℕ, _-_, _*_, _≤_, _<_, Ordering·lt, Ordering·gt}
+use mathlib.Core.Path.{_≡_}
+use mathlib.Core.Bool.{Bool, true, false, not, _&&_, _||_}
+use mathlib.Core.List.{List, [], _∷_}
+use lib.Dec.{ltb, eqb, isEq}
+use lib.ListN.{length, getD, take, drop}
+use Rattle.refusal.specs.Answer.{Answer, Rule, accepted, refused, answered, _unless_}
+use Rattle.bank.specs.Bank.{slotAt}
+use Rattle.nibbles.specs.Words.{validWord}
+use Rattle.order.specs.Bytes.{Bytes, bytewise}
+use Rattle.order.specs.Layer.{ikeyAt, classAt}
+use Rattle.key.specs.Keys.{fits}
+use Rattle.leaf.specs.declared.Entry.{Entry}
+use Rattle.leaf.specs.declared.Searched.{Searched}
+use Rattle.leaf.specs.declared.Searched.the-variants.{Found, Conflict, Layer, NotFound, Refused}
+use Rattle.leaf.specs.Lists.{firstWhere}
+use Rattle.leaf.specs.Leaf.{none, slotsOf, inOrder, rank, against, isLess, lentRight, lengthWord, goodEntries}
+
+-- The values of an accepted search: which outcome, and the slot or the position.
+abbrev pub found : ℕ → List ℕ
+found slot = 0 ∷ slot ∷ []
+
+abbrev pub conflict : ℕ → List ℕ
+conflict slot = 1 ∷ slot ∷ []
+
+abbrev pub layer : ℕ → List ℕ
+layer slot = 2 ∷ slot ∷ []
+
+abbrev pub notFound : ℕ → List ℕ
+notFound position = 3 ∷ position ∷ []
+
+-- what each case of the answer says: 0, the outcome and its number, or the refusal's number and the word as given
+abbrev pub saidSearched : Searched → Answer
+saidSearched (Found slot) = accepted (found slot)
+saidSearched (Conflict slot) = accepted (conflict slot)
+saidSearched (Layer slot) = accepted (layer slot)
+saidSearched (NotFound position) = accepted (notFound position)
+saidSearched (Refused why word) = refused why (word ∷ [])
+
+abbrev pub either : Bool → List ℕ → List ℕ → List ℕ
+either true a b = a
+either false a b = b
+
+-- the stored key: the cell's bytes up to its length
+abbrev pub storedKey : List ℕ → List ℕ → ℕ → List ℕ
+storedKey cells bytes cell = take (lengthWord cells cell - 1) (drop (256 * cell) bytes)
+
+-- the stored suffix: the cell's bytes from the key's suffix start on, or none
+unfoldable pub storedSuffix : List ℕ → List ℕ → ℕ → ℕ → List ℕ
+storedSuffix cells bytes cell start = drop start (storedKey cells bytes cell)
+
+-- two suffixes are the same bytes
+abbrev pub sameBytes : List ℕ → List ℕ → Bool
+sameBytes a b = isEq (bytewise a b)
+
+-- the outcome at an entry with the key's ikey and class: a link is a layer; of two longer ones the suffixes decide between
+-- found and conflict; with up to 8 bytes ikey and length say all
+unfoldable pub metWith : List ℕ → List ℕ → List ℕ → ℕ → Entry → ℕ → List ℕ
+metWith cells bytes key start e slot =
+    either (eqb (e .class) 10) (layer slot)
+    (either (eqb (e .class) 9 && not (sameBytes (storedSuffix cells bytes (e .at) start) (drop start key)))
+    (conflict slot) (found slot))
+
+-- the first position whose entry has this ikey and class
+abbrev pub placeEqual : ℕ → ℕ → List Entry → ℕ
+placeEqual ikey class es = firstWhere (λ e. isEq (against ikey class e)) es
+
+-- the first position whose entry is greater than this ikey and class
+abbrev pub placeGreater : ℕ → ℕ → List Entry → ℕ
+placeGreater ikey class es = firstWhere (λ e. isLess (against ikey class e)) es
+
+-- The outcome of a search: at the entry that has the key's ikey and class, if there is one; else not found, with the first
+-- position whose entry is greater, or the size.
+unfoldable pub outcome : ℕ → List Entry → List ℕ → List ℕ → List ℕ → ℕ → ℕ → ℕ → List ℕ
+outcome word entries cells bytes key ikey class start =
+    let es = inOrder word entries in
+    let p = placeEqual ikey class es in
+    either (ltb p (length es)) (metWith cells bytes key start (getD es p none) (slotAt p (slotsOf word)))
+    (notFound (placeGreater ikey class es))
+
+-- a position whose entry has this ikey and class
+pub record Meets (ikey class : ℕ) (es : List Entry) (p : ℕ) : Type 0 where
+  pub within : p < length es
+  pub same-ikey : getD es p none .ikey ≡ ikey
+  pub same-class : rank (getD es p none) ≡ class
+
+-- a position where this ikey and class belong: all entries before it are less, and all from it on are greater
+pub record Belongs (ikey class : ℕ) (es : List Entry) (p : ℕ) : Type 0 where
+  pub within : p ≤ length es
+  pub before : (k : ℕ) → k < p → against ikey class (getD es k none) ≡ Ordering·gt
+  pub after : (k : ℕ) → p ≤ k → k < length es → against ikey class (getD es k none) ≡ Ordering·lt
+
+-- an entry says what its cell holds at a layer: the cell's key has the entry's ikey and class there
+pub record Says (cells bytes : List ℕ) (offset : ℕ) (e : Entry) : Type 0 where
+  pub stored-whole : e .class ≤ 9
+  pub stored-bytes : Bytes (storedKey cells bytes (e .at))
+  pub stored-ikey : ikeyAt (storedKey cells bytes (e .at)) offset ≡ e .ikey
+  pub stored-class : classAt (storedKey cells bytes (e .at)) offset ≡ rank e
+
+-- refusals 3, 7 and 10: with wrong lent lengths only the word is judged for 3
+abbrev pub searchRules : ℕ → List Entry → List ℕ → List ℕ → List ℕ → ℕ → ℕ → ℕ → List Rule
+searchRules word entries cells bytes key ikey shifts start =
+    (3 unless validWord 15 word && (not (lentRight cells bytes) || goodEntries cells (inOrder word entries)))
+    ∷ (7 unless fits key ikey shifts start)
+    ∷ (10 unless lentRight cells bytes)
+    ∷ []
+
+-- what a search answers
+unfoldable pub searchSaid : ℕ → List Entry → List ℕ → List ℕ → List ℕ → ℕ → ℕ → ℕ → Answer
+searchSaid word entries cells bytes key ikey shifts start =
+    answered (searchRules word entries cells bytes key ikey shifts start)
+    (outcome word entries cells bytes key ikey (classAt key (8 * shifts)) start)
+    (word ∷ [])
+
+-- the rest of the rules where the word is valid and the lent lengths are wrong
+unfoldable pub unlentSaid : ℕ → List ℕ → ℕ → ℕ → ℕ → Answer
+unlentSaid word key ikey shifts start =
+    answered ((7 unless fits key ikey shifts start) ∷ (10 unless false) ∷ []) [] (word ∷ [])
+
+-- the rest of the rules where the word is valid and the lent lengths are right
+unfoldable pub lentSaid : ℕ → List Entry → List ℕ → List ℕ → List ℕ → ℕ → ℕ → ℕ → Answer
+lentSaid word entries cells bytes key ikey shifts start =
+    answered ((3 unless goodEntries cells (inOrder word entries)) ∷ (7 unless fits key ikey shifts start) ∷ [])
+    (outcome word entries cells bytes key ikey (classAt key (8 * shifts)) start)
+    (word ∷ [])
+
+-- what the scan may count on: nothing of the leaf, the cells and the key is to be refused
+pub record Searchable (word : ℕ) (entries : List Entry) (cells bytes key : List ℕ) (ikey shifts start : ℕ) : Type 0 where
+  pub word-valid : validWord 15 word ≡ true
+  pub lent : lentRight cells bytes ≡ true
+  pub good : goodEntries cells (inOrder word entries) ≡ true
+  pub fit : fits key ikey shifts start ≡ true
