@@ -1,0 +1,82 @@
+// The lent memory of the index, as docs/LAYOUT.md has it: nodes and cells by value, what is free, and `clear`.
+pub mod inside;
+
+ghost use mathlib.Core.Path.{_≡_};
+ghost use lib.ListN.{length};
+ghost use Rattle.arena.specs.Memory.{memory, did, measured, cleared, saidMeasured, saidCleared};
+use inside::Leaf;
+use refusal::Refusal;
+
+// The slot word of an empty leaf, width 15.
+const EMPTY: u64 = 0x0123_4567_89AB_CDE0;
+
+// How many nodes and cells the lent slices have room for, or 10.
+pub enum Measured {
+    Fit { nodes: usize, cells: usize },
+    Refused(Refusal),
+}
+
+pub enum Cleared {
+    Done,
+    Refused(Refusal),
+}
+
+// Whether the lent lengths are right, and N and C.
+pub fn lengths(nodes: &[u64], cells: &[u64], bytes: &[u8]) -> Measured
+    ensures { λ r. ⌜ saidMeasured r ≡ measured (length (now (nodes .entry))) (length (now (cells .entry))) (length (now (bytes .entry))) ⌝ }
+{
+    measure(nodes.len(), cells.len(), bytes.len())
+}
+
+// The same by the three lengths alone.
+pub fn measure(nodes: usize, cells: usize, bytes: usize) -> Measured
+    ensures { λ r. ⌜ saidMeasured r ≡ measured nodes cells bytes ⌝ }
+{
+    if nodes < 49 {
+        return Measured::Refused(Refusal::Memory);
+    }
+    let n = (nodes - 2) / 47;
+    if 255 < n {
+        return Measured::Refused(Refusal::Memory);
+    }
+    if nodes != 2 + n * 47 {
+        return Measured::Refused(Refusal::Memory);
+    }
+    let c = cells / 2;
+    if c < 1 {
+        return Measured::Refused(Refusal::Memory);
+    }
+    if 255 < c {
+        return Measured::Refused(Refusal::Memory);
+    }
+    if cells != c * 2 {
+        return Measured::Refused(Refusal::Memory);
+    }
+    if bytes != c * 256 {
+        return Measured::Refused(Refusal::Memory);
+    }
+    Measured::Fit { nodes: n, cells: c }
+}
+
+// Leaves node 0, an empty leaf, as root, and everything else zero.
+pub fn clear(nodes: &mut [u64], cells: &mut [u64], bytes: &mut [u8]) -> Cleared
+    ensures { λ r. ⌜ did (saidCleared r) (memory (now (nodes .exit)) (now (cells .exit)) (now (bytes .exit))) ≡ cleared (memory (now (nodes .entry)) (now (cells .entry)) (now (bytes .entry))) ⌝ }
+{
+    if let Measured::Refused(why) = lengths(nodes, cells, bytes) {
+        return Cleared::Refused(why);
+    }
+    inside::zero_words(nodes, 0, nodes.len());
+    inside::zero_words(cells, 0, cells.len());
+    inside::zero_bytes(bytes, 0, bytes.len());
+    inside::store_leaf(
+        nodes,
+        0,
+        Leaf {
+            word: EMPTY,
+            ikeys: [0u64; 15],
+            classes: [0u64; 15],
+            refs: [0u64; 15],
+        },
+    );
+    Cleared::Done
+}
