@@ -1,0 +1,58 @@
+//! The Rust's `insert_from_back` at width 15 for C: as it is, and after the port's judgement by plain loops.
+//! The root that bench/run writes puts the Rust's own file in as `permuter`.
+
+use crate::permuter::Permuter;
+
+#[no_mangle]
+pub extern "C" fn rust_unchecked(word: &mut u64, _width: usize, i: usize, slot: &mut usize) -> u64 {
+    let mut permuter = Permuter::<15>::from_value(*word);
+    *slot = permuter.insert_from_back(i);
+    *word = permuter.value();
+    0
+}
+
+#[no_mangle]
+pub extern "C" fn rust_judged(word: &mut u64, width: usize, i: usize, slot: &mut usize) -> u64 {
+    let number = judged(*word, width, i);
+    if number != 0 {
+        return number;
+    }
+    rust_unchecked(word, width, i, slot)
+}
+
+/// Refusals 1, 2, 4 and 5, the lowest first.
+#[inline(never)]
+fn judged(word: u64, width: usize, i: usize) -> u64 {
+    if !(1..=15).contains(&width) {
+        return 1;
+    }
+    if !is_valid(word, width) {
+        return 2;
+    }
+    let size = (word & 15) as usize;
+    if i > size {
+        return 4;
+    }
+    if size == width {
+        return 5;
+    }
+    0
+}
+
+/// The size is at most the width, each position holds a slot below the width, none twice, and nothing stands above.
+fn is_valid(word: u64, width: usize) -> bool {
+    if (word & 15) as usize > width {
+        return false;
+    }
+    let mut rest = word >> 4;
+    let mut seen = 0u32;
+    for _ in 0..width {
+        let slot = rest & 15;
+        if slot as usize >= width || seen & 1 << slot != 0 {
+            return false;
+        }
+        seen |= 1 << slot;
+        rest >>= 4;
+    }
+    rest == 0
+}

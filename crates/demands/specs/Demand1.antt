@@ -1,0 +1,162 @@
+-- Demand 1: bad input gets its numbered refusal, exactly under the condition that document 01 states, the lowest number where
+-- several apply; a refused call hands the word, the key or the node back unchanged.
+--
+-- That every call ends on any input needs no statement here: each function is proved to end, and no public function requires
+-- anything. Below, each kind of call is listed with its rules, as in document 01's table: `4 unless leb n w` gives 4 unless
+-- n ≤ W. `AsRuled rules values back answer` says: where no rule applies the answer is accepted with the values; else its number
+-- is the lowest that applies, and what was given comes back.
+use Prim.Native.Nat.{ℕ, _*_, compare}
+use mathlib.Core.Bool.{Bool, _&&_}
+use mathlib.Core.List.{List, [], _∷_}
+use lib.Dec.{T, leb, ltb}
+use lib.ListN.{length, getD}
+use Rattle.refusal.specs.Answer.{Rule, _unless_}
+use Rattle.refusal.specs.Exactly.{listedAbove, AsRuled}
+use Rattle.refusal.proofs.Exactly.{as-ruled}
+use Rattle.bank.specs.Bank.{sorted}
+use Rattle.bank.specs.Calls.{
+  Change,
+  fromValue,
+  setSize,
+  swapFreeSlots,
+  insertFromBack,
+  remove,
+  removeToBack,
+  removeSlot,
+  exchange,
+  rotate,
+  Question,
+  size,
+  get,
+  back,
+  backAtOffset,
+  changeRules,
+  after,
+  handedOut,
+  questionRules,
+  told,
+}
+use Rattle.nibbles.specs.Words.{bankOf, wordOf, goodWidth, validWord}
+use Rattle.permuter.specs.Words.{wordRules, changed, asked, madeSorted, madeEmpty}
+use Rattle.order.specs.Bytes.{bytewise}
+use Rattle.ikey.specs.Said.{place, compareKeysSaid}
+use Rattle.key.specs.Keys.{fits, numbersAt, asked as askedOfKey, moved, newSaid}
+use Rattle.order.specs.Layer.{classAt}
+use Rattle.internode.specs.declared.Internode.{Internode}
+use Rattle.internode.specs.Lists.{rising, insertedAt}
+use Rattle.internode.specs.Node.{keysOf, good, insertPosition, childFor, inserted, numbers}
+use Rattle.internode.specs.Calls.{findSaid, compareSaid, childSaid, insertSaid}
+use Rattle.leaf.specs.declared.Entry.{Entry}
+use Rattle.leaf.specs.Search.{searchRules, outcome, searchSaid}
+
+-- ---- slot words
+
+-- Calls that hand a word back: 1 for the width, 2 for the word, then what the call needs (`changeRules`: 4, 5 and 6).
+pub word-changes : (w word : ℕ) (c : Change)
+    → AsRuled (wordRules w word (changeRules c (bankOf w word))) (wordOf (after c (bankOf w word)) ∷ handedOut c (bankOf w word)) (word ∷ [])
+    (changed w word c)
+unfolding changed listedAbove
+word-changes w word c =
+    as-ruled (wordRules w word (changeRules c (bankOf w word))) (wordOf (after c (bankOf w word)) ∷ handedOut c (bankOf w word)) (word ∷ []) 0
+    (rising c)
+  where
+    rising : (d : Change) → T (listedAbove 0 (wordRules w word (changeRules d (bankOf w word))))
+    rising fromValue = tt
+    rising (setSize n) = tt
+    rising (swapFreeSlots i j) = tt
+    rising (insertFromBack i) = tt
+    rising (remove i) = tt
+    rising (removeToBack i) = tt
+    rising (removeSlot s) = tt
+    rising (exchange i j) = tt
+    rising (rotate i j) = tt
+
+-- Calls that tell a number of a word: 1, 2, then 4 (`questionRules`).
+pub word-questions : (w word : ℕ) (q : Question)
+    → AsRuled (wordRules w word (questionRules q (bankOf w word))) (told q (bankOf w word) ∷ []) (word ∷ []) (asked w word q)
+unfolding asked listedAbove
+word-questions w word q =
+    as-ruled (wordRules w word (questionRules q (bankOf w word))) (told q (bankOf w word) ∷ []) (word ∷ []) 0 (rising q)
+  where
+    rising : (p : Question) → T (listedAbove 0 (wordRules w word (questionRules p (bankOf w word))))
+    rising size = tt
+    rising (get i) = tt
+    rising back = tt
+    rising (backAtOffset k) = tt
+
+-- Words made anew have none to hand back: 1, and `make_sorted` 4.
+pub sorted-words : (w n : ℕ)
+    → AsRuled ((1 unless goodWidth w) ∷ (4 unless leb n w) ∷ []) (wordOf (sorted w n) ∷ []) [] (madeSorted w n)
+unfolding madeSorted listedAbove
+sorted-words w n = as-ruled ((1 unless goodWidth w) ∷ (4 unless leb n w) ∷ []) (wordOf (sorted w n) ∷ []) [] 0 tt
+
+pub empty-words : (w : ℕ) → AsRuled ((1 unless goodWidth w) ∷ []) (wordOf (sorted w 0) ∷ []) [] (madeEmpty w)
+unfolding madeEmpty listedAbove
+empty-words w = as-ruled ((1 unless goodWidth w) ∷ []) (wordOf (sorted w 0) ∷ []) [] 0 tt
+
+-- ---- keys, which are the caller's bytes and three numbers
+
+-- Calls that ask something of a key, whatever it is: 7 unless the key fits its bytes.
+pub key-questions : (bytes : List ℕ) (ikey shifts suffix : ℕ) (values : List ℕ)
+    → AsRuled ((7 unless fits bytes ikey shifts suffix) ∷ []) values (ikey ∷ shifts ∷ suffix ∷ []) (askedOfKey bytes ikey shifts suffix values)
+unfolding askedOfKey listedAbove
+key-questions bytes ikey shifts suffix values =
+    as-ruled ((7 unless fits bytes ikey shifts suffix) ∷ []) values (ikey ∷ shifts ∷ suffix ∷ []) 0 tt
+
+-- Calls that move a key to another layer: 7, then 8 unless the move is allowed.
+pub key-moves : (bytes : List ℕ) (ikey shifts suffix : ℕ) (allowed : Bool) (to : ℕ)
+    → AsRuled ((7 unless fits bytes ikey shifts suffix) ∷ (8 unless allowed) ∷ []) (numbersAt bytes to) (ikey ∷ shifts ∷ suffix ∷ [])
+    (moved bytes ikey shifts suffix allowed to)
+unfolding moved listedAbove
+key-moves bytes ikey shifts suffix allowed to =
+    as-ruled ((7 unless fits bytes ikey shifts suffix) ∷ (8 unless allowed) ∷ []) (numbersAt bytes to) (ikey ∷ shifts ∷ suffix ∷ []) 0 tt
+
+-- A new key, and two whole keys compared: 7 over 256 bytes.
+pub new-keys : (bytes : List ℕ) → AsRuled ((7 unless leb (length bytes) 256) ∷ []) (numbersAt bytes 0) [] (newSaid bytes)
+unfolding newSaid listedAbove
+new-keys bytes = as-ruled ((7 unless leb (length bytes) 256) ∷ []) (numbersAt bytes 0) [] 0 tt
+
+pub whole-keys : (a b : List ℕ)
+    → AsRuled ((7 unless leb (length a) 256 && leb (length b) 256) ∷ []) (place (bytewise a b) ∷ []) [] (compareKeysSaid a b)
+unfolding compareKeysSaid listedAbove
+whole-keys a b =
+    as-ruled ((7 unless leb (length a) 256 && leb (length b) 256) ∷ []) (place (bytewise a b) ∷ []) [] 0 tt
+
+-- ---- one node
+
+-- Calls on an internode: 3 for the node, then 4, 5 and 9; a refused insertion hands the node back, all that it holds.
+pub internode-places : (x : Internode) (target : ℕ)
+    → AsRuled ((3 unless good x) ∷ []) (insertPosition x target ∷ []) [] (findSaid x target)
+unfolding findSaid listedAbove
+internode-places x target = as-ruled ((3 unless good x) ∷ []) (insertPosition x target ∷ []) [] 0 tt
+
+pub internode-comparisons : (x : Internode) (ikey p : ℕ)
+    → AsRuled ((3 unless good x) ∷ (4 unless ltb p (x .n)) ∷ []) (place (compare ikey (getD (x .ikeys) p 0)) ∷ []) [] (compareSaid x ikey p)
+unfolding compareSaid listedAbove
+internode-comparisons x ikey p =
+    as-ruled ((3 unless good x) ∷ (4 unless ltb p (x .n)) ∷ []) (place (compare ikey (getD (x .ikeys) p 0)) ∷ []) [] 0 tt
+
+pub internode-children : (x : Internode) (target : ℕ)
+    → AsRuled ((3 unless good x) ∷ []) (childFor x target ∷ []) [] (childSaid x target)
+unfolding childSaid listedAbove
+internode-children x target = as-ruled ((3 unless good x) ∷ []) (childFor x target ∷ []) [] 0 tt
+
+abbrev pub insertRules : Internode → ℕ → ℕ → List Rule
+insertRules x p ikey =
+    (3 unless good x) ∷ (4 unless leb p (x .n)) ∷ (5 unless ltb (x .n) 15) ∷ (9 unless rising (insertedAt p ikey (keysOf x))) ∷ []
+
+pub internode-insertions : (x : Internode) (p ikey child : ℕ)
+    → AsRuled (insertRules x p ikey) (numbers (inserted x p ikey child)) (numbers x) (insertSaid x p ikey child)
+unfolding insertSaid listedAbove
+internode-insertions x p ikey child =
+    as-ruled (insertRules x p ikey) (numbers (inserted x p ikey child)) (numbers x) 0 tt
+
+-- The search of a leaf: 3 for the leaf, 7 for the key, 10 for the lent lengths (`searchRules`); refused, the word as given.
+pub leaf-searches : (word : ℕ) (entries : List Entry) (cells bytes key : List ℕ) (ikey shifts start : ℕ)
+    → AsRuled (searchRules word entries cells bytes key ikey shifts start)
+    (outcome word entries cells bytes key ikey (classAt key (8 * shifts)) start) (word ∷ [])
+    (searchSaid word entries cells bytes key ikey shifts start)
+unfolding searchSaid listedAbove
+leaf-searches word entries cells bytes key ikey shifts start =
+    as-ruled (searchRules word entries cells bytes key ikey shifts start)
+    (outcome word entries cells bytes key ikey (classAt key (8 * shifts)) start) (word ∷ []) 0 tt

@@ -1,0 +1,71 @@
+-- What each case of an answer leaves for C: an accepted one its values, a refused one its number alone. Assumes nothing.
+use Prim.Native.Nat.{ℕ, _<_}
+use native.Mathlib.Omega.{arith}
+use mathlib.Core.Path.{_≡_, refl, sym, subst, _∙_}
+use mathlib.Core.Bool.{Bool, true, false}
+use mathlib.Core.List.{List, [], _∷_}
+use lib.Dec.{eqb}
+use borrow.Author.Tests.{ne-eqb}
+use Rattle.refusal.specs.declared.Refusal.{Refusal}
+use Rattle.refusal.specs.Refusals.{numberOf}
+use Rattle.refusal.specs.Answer.{Answer, accepted, refused}
+use Rattle.refusal.proofs.Laws.{number-pos}
+use Rattle.permuter.specs.declared.Changed.{Changed}
+use Rattle.permuter.specs.declared.Changed.the-variants as C
+use Rattle.permuter.specs.declared.Inserted.{Inserted}
+use Rattle.permuter.specs.declared.Inserted.the-variants as I
+use Rattle.permuter.specs.declared.Told.{Told}
+use Rattle.permuter.specs.declared.Told.the-variants as T
+use Rattle.permuter.specs.declared.Made.{Made}
+use Rattle.permuter.specs.declared.Made.the-variants as M
+use Rattle.permuter.specs.Answers.{saidChanged, saidInserted, saidTold, saidMade}
+use Rattle.firmware.specs.Crossing.{writtenIf, Crossed}
+
+-- a refusal returns its number, and what was lent stays
+refusal-crosses : (why : Refusal) (back lent : List ℕ) {r : ℕ} → r ≡ numberOf why →
+    Crossed (refused why back) r lent lent
+refusal-crosses why back lent e =
+    record { number = e; lent = rw (ne-eqb (numberOf why) 0 (λ z. let p = number-pos why in omega arith)) refl }
+
+-- an answer that is known crosses as that one does
+pub crosses-as : {a b : Answer} {r : ℕ} {before after : List ℕ} → a ≡ b → Crossed a r before after →
+    Crossed b r before after
+crosses-as {r = r} {before = before} {after = after} e h = subst (λ (x : Answer). Crossed x r before after) e h
+
+-- an answer leaves one outcome: what is returned, and what stands in the lent numbers
+pub one-outcome : {a : Answer} {r r′ : ℕ} {before after after′ : List ℕ} → Crossed a r before after →
+    Crossed a r′ before after′ → (r ≡ r′) × (after ≡ after′)
+one-outcome h h′ = (h .number ∙ sym (h′ .number), h .lent ∙ sym (h′ .lent))
+
+module _ {answer : Changed} where
+  pub changed-word : {new old : ℕ} → answer ≡ C.Word new → Crossed (saidChanged answer) 0 (old ∷ []) (new ∷ [])
+  changed-word e = rw e (record { number = refl; lent = refl })
+
+  pub changed-refused : {why : Refusal} {back old r : ℕ} → answer ≡ C.Refused why back → r ≡ numberOf why →
+      Crossed (saidChanged answer) r (old ∷ []) (old ∷ [])
+  changed-refused {why} {back} {old} e n = rw e (refusal-crosses why (back ∷ []) (old ∷ []) n)
+
+module _ {answer : Inserted} where
+  pub inserted-slot : {new slot old before : ℕ} → answer ≡ I.Slot new slot →
+      Crossed (saidInserted answer) 0 (old ∷ before ∷ []) (new ∷ slot ∷ [])
+  inserted-slot e = rw e (record { number = refl; lent = refl })
+
+  pub inserted-refused : {why : Refusal} {back old before r : ℕ} → answer ≡ I.Refused why back → r ≡ numberOf why →
+      Crossed (saidInserted answer) r (old ∷ before ∷ []) (old ∷ before ∷ [])
+  inserted-refused {why} {back} {old} {before} e n = rw e (refusal-crosses why (back ∷ []) (old ∷ before ∷ []) n)
+
+module _ {answer : Told} where
+  pub told-number : {new old : ℕ} → answer ≡ T.Number new → Crossed (saidTold answer) 0 (old ∷ []) (new ∷ [])
+  told-number e = rw e (record { number = refl; lent = refl })
+
+  pub told-refused : {why : Refusal} {back old r : ℕ} → answer ≡ T.Refused why back → r ≡ numberOf why →
+      Crossed (saidTold answer) r (old ∷ []) (old ∷ [])
+  told-refused {why} {back} {old} e n = rw e (refusal-crosses why (back ∷ []) (old ∷ []) n)
+
+module _ {answer : Made} where
+  pub made-word : {new old : ℕ} → answer ≡ M.Word new → Crossed (saidMade answer) 0 (old ∷ []) (new ∷ [])
+  made-word e = rw e (record { number = refl; lent = refl })
+
+  pub made-refused : {why : Refusal} {old r : ℕ} → answer ≡ M.Refused why → r ≡ numberOf why →
+      Crossed (saidMade answer) r (old ∷ []) (old ∷ [])
+  made-refused {why} {old} e n = rw e (refusal-crosses why [] (old ∷ []) n)

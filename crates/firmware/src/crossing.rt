@@ -1,0 +1,65 @@
+// An answer taken apart for C: its number to return, its values into the lent numbers.
+ghost use mathlib.Core.List.{[], _∷_};
+ghost use Rattle.permuter.specs.Answers.{saidChanged, saidInserted, saidTold, saidMade};
+ghost use Rattle.firmware.specs.Crossing.{Crossed};
+use permuter::Changed;
+use permuter::Inserted;
+use permuter::Made;
+use permuter::Told;
+
+// A changed word.
+pub fn give_changed(answer: Changed, word: &mut u64) -> u64
+    ensures { λ r. ⌜ Crossed (saidChanged answer) r (now (word .entry) ∷ []) (now (word .exit) ∷ []) ⌝ }
+{
+    match answer {
+        Changed::Word(new) => {
+            *word = new;
+            0
+        }
+        Changed::Refused { why, word: _ } => refusal::number(why),
+    }
+}
+
+// The word after an insertion, and the slot handed out.
+pub fn give_inserted(answer: Inserted, word: &mut u64, slot: &mut usize) -> u64
+    ensures { λ r. ⌜ Crossed (saidInserted answer) r
+        (now (word .entry) ∷ now (slot .entry) ∷ []) (now (word .exit) ∷ now (slot .exit) ∷ []) ⌝ }
+{
+    match answer {
+        Inserted::Slot {
+            word: new,
+            slot: taken,
+        } => {
+            *word = new;
+            *slot = taken;
+            0
+        }
+        Inserted::Refused { why, word: _ } => refusal::number(why),
+    }
+}
+
+// A number told of a word.
+pub fn give_told(answer: Told, told: &mut usize) -> u64
+    ensures { λ r. ⌜ Crossed (saidTold answer) r (now (told .entry) ∷ []) (now (told .exit) ∷ []) ⌝ }
+{
+    match answer {
+        Told::Number(number) => {
+            *told = number;
+            0
+        }
+        Told::Refused { why, word: _ } => refusal::number(why),
+    }
+}
+
+// A word that was made.
+pub fn give_made(answer: Made, word: &mut u64) -> u64
+    ensures { λ r. ⌜ Crossed (saidMade answer) r (now (word .entry) ∷ []) (now (word .exit) ∷ []) ⌝ }
+{
+    match answer {
+        Made::Word(new) => {
+            *word = new;
+            0
+        }
+        Made::Refused(why) => refusal::number(why),
+    }
+}
