@@ -6,9 +6,9 @@ use Prim.Native.Nat.{ℕ, _+_, _-_, _≤_}
 use native.Mathlib.Omega.{arith}
 use lib.ListN.{length, set, length-append, length-replicate}
 use lib.Seq.{take-append-le, take-length}
-use Rattle.arena.specs.Parts.{part, putPart, zeros}
+use Rattle.lent_words.specs.Parts.{part, putPart, zeros}
 use Rattle.arena.specs.Layout.{cellStart, keyStart, cellAt, bytesAt, markAt, frameAt, keyAt, keyBytes, putCell, putKey, freedCell}
-use Rattle.arena.proofs.Words.{part-part, part-kept, put-put, put-same, put-in, put-out, put-length, first-put, set-put, part-all, lt-or-ge}
+use Rattle.lent_words.proofs.Words.{part-part, part-kept, put-put, put-same, put-in, put-out, put-length, first-put, set-put, part-all, lt-or-ge}
 
 pub cells-apart : (j k : ℕ) → (j ≡ k → ⊥) → (cellStart j + 2 ≤ cellStart k) ⊎ (cellStart k + 2 ≤ cellStart j)
 cells-apart j k ne = ⊎-elim (λ l. inl (omega arith)) (λ g. inr (omega arith)) (lt-or-ge j k)

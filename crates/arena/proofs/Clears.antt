@@ -12,11 +12,11 @@ use Rattle.refusal.specs.Refusals.{numberOf}
 use Rattle.refusal.proofs.Laws.{number-pos}
 use Rattle.arena.specs.declared.Measured.{Measured}
 use Rattle.arena.specs.declared.Measured.the-variants as M
-use Rattle.arena.specs.Parts.{putPart, zeros}
+use Rattle.lent_words.specs.Parts.{putPart, zeros}
 use Rattle.arena.specs.Layout.{nodeStart, cellStart, nodeAt, rootOf, leafAt, leafWords, putLeaf, freeWords, WholeLeaf}
 use Rattle.arena.specs.Free.{freeNodes, freeCells}
 use Rattle.arena.specs.Memory.{memory, did, pickDid, nodeCount, cellCount, rightLengths, measured, saidMeasured, emptyLeaf, emptied, cleared}
-use Rattle.arena.proofs.Words.{zero-all, part-ext, part-all}
+use Rattle.lent_words.proofs.Words.{zero-all, part-ext, part-all}
 use Rattle.arena.proofs.Nodes.{nodes-length, head-kept, leaf-stored, node-kept, free-length}
 use Rattle.arena.proofs.Frees.{all-pass}
 use Rattle.arena.proofs.Counts.{nodes-fewer}

@@ -7,7 +7,7 @@ use native.Mathlib.Omega.{arith}
 use lib.ListN.{length, getD}
 use borrow.Author.Tests.{eqb-true, eqb-false}
 use Rattle.arena.specs.declared.inside.Lowest.the-variants.{At, Nothing}
-use Rattle.arena.specs.Parts.{zeros}
+use Rattle.lent_words.specs.Parts.{zeros}
 use Rattle.arena.specs.Layout.{nodeStart, kindAt, putNode, freedNode, freeWords, cellStart, markAt, putCell, freedCell}
 use Rattle.arena.specs.Free.{isFree, frees, freeNodes, freeCells, lowest}
 use Rattle.arena.proofs.Nodes.{nodes-apart, free-length}

@@ -12,10 +12,10 @@ use lib.ListN.{length, getD}
 use lib.Dec.{eqb}
 use borrow.Author.Tests.{eq-eqb, ne-eqb}
 use Rattle.arena.specs.declared.inside.Lowest.the-variants.{At, Nothing}
-use Rattle.arena.specs.Parts.{putPart}
+use Rattle.lent_words.specs.Parts.{putPart}
 use Rattle.arena.specs.Free.{consIf, passing, isFree, frees, freeCells, every, lowest}
 use Rattle.arena.specs.Layout.{cellStart}
-use Rattle.arena.proofs.Words.{first-put, put-out}
+use Rattle.lent_words.proofs.Words.{first-put, put-out}
 
 -- ---- any test
 

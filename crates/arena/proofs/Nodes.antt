@@ -8,9 +8,9 @@ use lib.ListN.{length, getD, set, length-append, length-set, length-replicate}
 use lib.Seq.{getD-set-other}
 use Rattle.arena.specs.declared.inside.Leaf.{Leaf}
 use Rattle.arena.specs.declared.inside.Internode.{Internode}
-use Rattle.arena.specs.Parts.{part, putPart, zeros}
+use Rattle.lent_words.specs.Parts.{part, putPart, zeros}
 use Rattle.arena.specs.Layout.{nodeStart, nodeAt, putNode, kindAt, wordAt, leafOf, leafWords, leafAt, putLeaf, internodeOf, internodeWords, internodeAt, putInternode, freeWords, freedNode, WholeLeaf, WholeInternode}
-use Rattle.arena.proofs.Words.{part-at, part-ext, part-part, part-kept, put-put, put-same, put-out, put-left, put-length, first-put, set-put, middle, lt-or-ge}
+use Rattle.lent_words.proofs.Words.{part-at, part-ext, part-part, part-kept, put-put, put-same, put-out, put-left, put-length, first-put, set-put, middle, lt-or-ge}
 
 -- ---- the words of a node
 

@@ -5,7 +5,7 @@ use mathlib.Core.List.{List, [], _∷_, _++_}
 use lib.ListN.{length, getD}
 use Rattle.arena.specs.declared.inside.Leaf.{Leaf}
 use Rattle.arena.specs.declared.inside.Internode.{Internode}
-use Rattle.arena.specs.Parts.{part, putPart, zeros}
+use Rattle.lent_words.specs.Parts.{part, putPart, zeros}
 
 -- ---- nodes: two words, and then 47 for each node
 

@@ -10,7 +10,7 @@ use Rattle.arena.specs.declared.Measured.{Measured}
 use Rattle.arena.specs.declared.Measured.the-variants as M
 use Rattle.arena.specs.declared.Cleared.{Cleared}
 use Rattle.arena.specs.declared.Cleared.the-variants as C
-use Rattle.arena.specs.Parts.{zeros}
+use Rattle.lent_words.specs.Parts.{zeros}
 use Rattle.arena.specs.Layout.{putLeaf}
 
 -- the three lent slices

@@ -4,9 +4,18 @@ ghost use mathlib.Core.Path.{_≡_};
 ghost use mathlib.Core.List.{List};
 ghost use Prim.Native.Nat.{ℕ, _+_, _-_, _*_, _≤_, _<_};
 ghost use lib.ListN.{length, set, getD};
-ghost use Rattle.arena.specs.Parts.{part, putPart, zeros};
+ghost use Rattle.arena.specs.Parts.{part};
 ghost use Rattle.arena.specs.Layout.{nodeStart, cellStart, keyStart, leafAt, internodeAt, putLeaf, putInternode, freedNode, kindAt, rootOf, markAt, frameAt, putCell, putKey, freedCell, freedKey};
 ghost use Rattle.arena.specs.Free.{frees, every, freeNodes, freeCells, lowest};
+pub use lent_words::copy_bytes;
+pub use lent_words::copy_words;
+pub use lent_words::put1;
+pub use lent_words::put15;
+pub use lent_words::put16;
+pub use lent_words::words15;
+pub use lent_words::words16;
+pub use lent_words::zero_bytes;
+pub use lent_words::zero_words;
 
 // A leaf: its slot word, and three columns by slot.
 pub struct Leaf {
@@ -27,95 +36,6 @@ pub struct Internode {
 pub enum Lowest {
     At(usize),
     Nothing,
-}
-
-// ---- words and bytes
-
-// Copies n words of src from `from` on to dst from `to` on.
-pub fn copy_words(src: &[u64], from: usize, dst: &mut [u64], to: usize, n: usize)
-    requires { ⌜ (from + n ≤ length (now src)) × (to + n ≤ length (now dst)) ⌝ }
-    ensures { λ _. ⌜ now (dst .exit) ≡ putPart (now (dst .entry)) to (part (now (src .entry)) from n) ⌝ }
-{
-    let mut i = 0;
-    while i < n {
-        dst[to + i] = src[from + i];
-        i += 1;
-    }
-}
-
-// The same for bytes.
-pub fn copy_bytes(src: &[u8], from: usize, dst: &mut [u8], to: usize, n: usize)
-    requires { ⌜ (from + n ≤ length (now src)) × (to + n ≤ length (now dst)) ⌝ }
-    ensures { λ _. ⌜ now (dst .exit) ≡ putPart (now (dst .entry)) to (part (now (src .entry)) from n) ⌝ }
-{
-    let mut i = 0;
-    while i < n {
-        dst[to + i] = src[from + i];
-        i += 1;
-    }
-}
-
-// n zero words from `at` on.
-pub fn zero_words(words: &mut [u64], at: usize, n: usize)
-    requires { ⌜ at + n ≤ length (now words) ⌝ }
-    ensures { λ _. ⌜ now (words .exit) ≡ putPart (now (words .entry)) at (zeros n) ⌝ }
-{
-    let mut i = 0;
-    while i < n {
-        words[at + i] = 0;
-        i += 1;
-    }
-}
-
-// n zero bytes from `at` on.
-pub fn zero_bytes(bytes: &mut [u8], at: usize, n: usize)
-    requires { ⌜ at + n ≤ length (now bytes) ⌝ }
-    ensures { λ _. ⌜ now (bytes .exit) ≡ putPart (now (bytes .entry)) at (zeros n) ⌝ }
-{
-    let mut i = 0;
-    while i < n {
-        bytes[at + i] = 0;
-        i += 1;
-    }
-}
-
-pub fn put1(words: &mut [u64], at: usize, w: u64)
-    requires { ⌜ at < length (now words) ⌝ }
-    ensures { λ _. ⌜ now (words .exit) ≡ set (now (words .entry)) at w ⌝ }
-{
-    words[at] = w;
-}
-
-pub fn words15(nodes: &[u64], at: usize) -> [u64; 15]
-    requires { ⌜ at + 15 ≤ length (now nodes) ⌝ }
-    ensures { λ r. ⌜ r ≡ part (now (nodes .entry)) at 15 ⌝ }
-{
-    let mut a = [0u64; 15];
-    copy_words(nodes, at, &mut a, 0, 15);
-    a
-}
-
-pub fn words16(nodes: &[u64], at: usize) -> [u64; 16]
-    requires { ⌜ at + 16 ≤ length (now nodes) ⌝ }
-    ensures { λ r. ⌜ r ≡ part (now (nodes .entry)) at 16 ⌝ }
-{
-    let mut a = [0u64; 16];
-    copy_words(nodes, at, &mut a, 0, 16);
-    a
-}
-
-pub fn put15(nodes: &mut [u64], at: usize, a: [u64; 15])
-    requires { ⌜ at + 15 ≤ length (now nodes) ⌝ }
-    ensures { λ _. ⌜ now (nodes .exit) ≡ putPart (now (nodes .entry)) at a ⌝ }
-{
-    copy_words(&a, 0, nodes, at, 15);
-}
-
-pub fn put16(nodes: &mut [u64], at: usize, a: [u64; 16])
-    requires { ⌜ at + 16 ≤ length (now nodes) ⌝ }
-    ensures { λ _. ⌜ now (nodes .exit) ≡ putPart (now (nodes .entry)) at a ⌝ }
-{
-    copy_words(&a, 0, nodes, at, 16);
 }
 
 // ---- nodes

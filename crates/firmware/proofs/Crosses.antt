@@ -10,14 +10,14 @@ use Rattle.refusal.specs.declared.Refusal.{Refusal}
 use Rattle.refusal.specs.Refusals.{numberOf}
 use Rattle.refusal.specs.Answer.{Answer, accepted, refused}
 use Rattle.refusal.proofs.Laws.{number-pos}
-use Rattle.permuter.specs.declared.Changed.{Changed}
-use Rattle.permuter.specs.declared.Changed.the-variants as C
-use Rattle.permuter.specs.declared.Inserted.{Inserted}
-use Rattle.permuter.specs.declared.Inserted.the-variants as I
-use Rattle.permuter.specs.declared.Told.{Told}
-use Rattle.permuter.specs.declared.Told.the-variants as T
-use Rattle.permuter.specs.declared.Made.{Made}
-use Rattle.permuter.specs.declared.Made.the-variants as M
+use Rattle.slot_answers.specs.declared.Changed.{Changed}
+use Rattle.slot_answers.specs.declared.Changed.the-variants as C
+use Rattle.slot_answers.specs.declared.Inserted.{Inserted}
+use Rattle.slot_answers.specs.declared.Inserted.the-variants as I
+use Rattle.slot_answers.specs.declared.Told.{Told}
+use Rattle.slot_answers.specs.declared.Told.the-variants as T
+use Rattle.slot_answers.specs.declared.Made.{Made}
+use Rattle.slot_answers.specs.declared.Made.the-variants as M
 use Rattle.permuter.specs.Answers.{saidChanged, saidInserted, saidTold, saidMade}
 use Rattle.firmware.specs.Crossing.{writtenIf, Crossed}
 

@@ -13,9 +13,9 @@ use Rattle.order.specs.Layer as L
 use Rattle.order.proofs.Layer.{layered-bytewise}
 use Rattle.refusal.specs.Answer.{Answer, accepted, pick}
 use Rattle.ikey.specs.Said.{place, compareKeysSaid}
-use Rattle.key.specs.Keys.{suffixAt, numbersAt, reached, fits, hasSuffix, asked, moved, newSaid, shiftSaid, compareSaid}
+use Rattle.key_layer.specs.Keys.{suffixAt, numbersAt, reached, fits, hasSuffix, asked, moved, newSaid, shiftSaid, compareSaid}
 use Rattle.key.specs.Layers.{byLayers, comparedByLayers, further, isEqual}
-use Rattle.key.proofs.Fitting.{and-true}
+use Rattle.key_layer.proofs.Fitting.{and-true}
 
 -- the numbers of a layer that there is fit
 at-layer-fits : (bytes : List ℕ) (s : ℕ) → length bytes ≤ 256 → reached bytes s ≡ true → fits bytes (ikeyAt bytes (8 * s)) s (suffixAt bytes s) ≡ true

@@ -1,4 +1,3 @@
 pub mod Fitting
-pub mod Calls
 pub mod One
 pub mod Layers

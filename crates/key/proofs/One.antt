@@ -8,23 +8,23 @@ use denote.Ref.{RefT, now}
 use Rattle.refusal.specs.Answer.{Answer, refused}
 use Rattle.refusal.specs.declared.Refusal.{Refusal}
 use Rattle.ikey.proofs.One.{no-refusal, same-refusal, same-values, same-value, place-one}
-use Rattle.key.specs.declared.Layer.{Layer}
-use Rattle.key.specs.declared.Made.{Made}
-use Rattle.key.specs.declared.Made.the-variants.{At as made-at, Refused as made-refused}
-use Rattle.key.specs.declared.Moved.{Moved}
-use Rattle.key.specs.declared.Moved.the-variants.{At as moved-at, Refused as moved-refused}
-use Rattle.key.specs.declared.Word.{Word}
-use Rattle.key.specs.declared.Word.the-variants.{Is as word-is, Refused as word-refused}
-use Rattle.key.specs.declared.Count.{Count}
-use Rattle.key.specs.declared.Count.the-variants.{Is as count-is, Refused as count-refused}
-use Rattle.key.specs.declared.Told.{Told}
-use Rattle.key.specs.declared.Told.the-variants.{Is as told-is, Refused as told-refused}
-use Rattle.key.specs.declared.Compared.{Compared}
-use Rattle.key.specs.declared.Compared.the-variants.{Is as compared-is, Refused as compared-refused}
-use Rattle.key.specs.declared.Judged.{Judged}
-use Rattle.key.specs.declared.Judged.the-variants.{Fits, Refused as judged-refused}
-use Rattle.key.specs.Said.{numbersOf, truth, saidMade, saidMoved, saidWord, saidCount, saidTold, saidCompared, saidJudged}
-use Rattle.key.specs.Keys.{IsTail}
+use Rattle.key_layer.specs.declared.Layer.{Layer}
+use Rattle.key_layer.specs.declared.Made.{Made}
+use Rattle.key_layer.specs.declared.Made.the-variants.{At as made-at, Refused as made-refused}
+use Rattle.key_layer.specs.declared.Moved.{Moved}
+use Rattle.key_layer.specs.declared.Moved.the-variants.{At as moved-at, Refused as moved-refused}
+use Rattle.key_layer.specs.declared.Word.{Word}
+use Rattle.key_layer.specs.declared.Word.the-variants.{Is as word-is, Refused as word-refused}
+use Rattle.key_layer.specs.declared.Count.{Count}
+use Rattle.key_layer.specs.declared.Count.the-variants.{Is as count-is, Refused as count-refused}
+use Rattle.key_layer.specs.declared.Told.{Told}
+use Rattle.key_layer.specs.declared.Told.the-variants.{Is as told-is, Refused as told-refused}
+use Rattle.key_layer.specs.declared.Compared.{Compared}
+use Rattle.key_layer.specs.declared.Compared.the-variants.{Is as compared-is, Refused as compared-refused}
+use Rattle.key_layer.specs.declared.Judged.{Judged}
+use Rattle.key_layer.specs.declared.Judged.the-variants.{Fits, Refused as judged-refused}
+use Rattle.key_layer.specs.Said.{numbersOf, truth, saidMade, saidMoved, saidWord, saidCount, saidTold, saidCompared, saidJudged}
+use Rattle.key_layer.specs.Keys.{IsTail}
 
 layerOf : ℕ → ℕ → ℕ → Layer
 layerOf i s p = record { ikey = i; «shift_count» = s; «suffix_start» = p }

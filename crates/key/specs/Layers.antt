@@ -6,7 +6,7 @@ use mathlib.Core.List.{List, [], _∷_}
 use lib.Dec.{eqb}
 use lib.ListN.{length, getD}
 use Rattle.refusal.specs.Answer.{Answer, accepted, pick}
-use Rattle.key.specs.Keys.{hasSuffix, newSaid, shiftSaid, compareSaid}
+use Rattle.key_layer.specs.Keys.{hasSuffix, newSaid, shiftSaid, compareSaid}
 
 -- the numbers of a key, in the answer that gave it
 abbrev pub ikeyOf : Answer → ℕ

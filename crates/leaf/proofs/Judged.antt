@@ -1,87 +1,26 @@
 -- A law for each way in which a judgement of a leaf, a cell or the lent lengths returns. Assumes nothing.
-use Prim.Native.Nat.{ℕ, suc, _+_, _*_, _-_, _/_, _%_, _≤_, _<_, Ordering}
+use Prim.Native.Nat.{ℕ, suc, _+_, _-_, _%_, _≤_, _<_, Ordering}
 use mathlib.Core.Path.{_≡_, sym, ap, _∙_}
 use mathlib.Core.Bool.{Bool, true, false, not}
 use mathlib.Core.List.{List}
 use native.Mathlib.Omega.{arith}
-use lib.Dec.{leb, ltb, eqb}
+use lib.Dec.{leb}
 use lib.ListN.{length, getD}
 use borrow.Author.Count.{below-more}
 use borrow.Author.Needs.{needs}
-use borrow.Author.Tests.{lt-ltb, le-ltb, le-leb, lt-leb, eq-eqb, ne-eqb, leb-true, ltb-true, eqb-true, not-true, not-false}
+use borrow.Author.Tests.{le-leb, lt-leb, eq-eqb, ne-eqb, not-true, not-false}
 use Rattle.bank.specs.Bank.{slotAt}
 use Rattle.nibbles.specs.Words.{validWord}
 use Rattle.ikey.specs.declared.Ordering.{Ordering as Ordered}
 use Rattle.ikey.specs.declared.Ordering.the-variants.{Less, Equal, Greater}
 use Rattle.ikey.specs.Said.{orderOf}
+pub use Rattle.lent_cells.proofs.Cells.{lent-odd, lent-none, lent-many, lent-bytes, lent-right, cell-beyond, cell-free, cell-length, cell-right}
 use Rattle.leaf.specs.declared.Entry.{Entry}
-use Rattle.leaf.specs.Leaf.{none, isLess, less, slotsOf, inOrder, rising, lengthWord, cellsIn, lentRight, Lent, cellRight, Cell, ofKind, goodEntries}
+use Rattle.leaf.specs.Leaf.{none, isLess, less, slotsOf, inOrder, rising, cellRight, ofKind, goodEntries}
 use Rattle.leaf.specs.Lists.{every}
 use Rattle.leaf.proofs.Lists.{both, every-all, every-not}
 use Rattle.leaf.proofs.Orders.{less-weight, rising-if, rising-not}
 use Rattle.leaf.proofs.Views.{length-in-order, entry-in-order}
-
--- ---- the lent lengths
-
-module _ (cells bytes : List ℕ) where
-  pub lent-odd : (length cells % 2 ≡ 0 → ⊥) → false ≡ lentRight cells bytes
-  unfolding lentRight
-  lent-odd h = rw (ne-eqb (length cells % 2) 0 h)
-
-  module _ (even : length cells % 2 ≡ 0) where
-    pub lent-none : length cells / 2 < 1 → false ≡ lentRight cells bytes
-    unfolding lentRight
-    lent-none h = rw (eq-eqb (length cells % 2) 0 even, lt-leb 1 (length cells / 2) h)
-
-    module _ (some : 1 ≤ length cells / 2) where
-      pub lent-many : 255 < length cells / 2 → false ≡ lentRight cells bytes
-      unfolding lentRight
-      lent-many h = rw (eq-eqb (length cells % 2) 0 even, le-leb 1 (length cells / 2) some, lt-leb (length cells / 2) 255 h)
-
-      pub lent-bytes : length cells / 2 ≤ 255 → eqb (length bytes) (256 * (length cells / 2)) ≡ lentRight cells bytes
-      unfolding lentRight
-      lent-bytes h = rw (eq-eqb (length cells % 2) 0 even, le-leb 1 (length cells / 2) some, le-leb (length cells / 2) 255 h)
-
--- what right lent lengths say
-pub lent-right : (cells bytes : List ℕ) → lentRight cells bytes ≡ true → Lent cells bytes
-unfolding lentRight
-lent-right cells bytes e =
-    let p = both {a = eqb (length cells % 2) 0} e .1 in
-    let q = both {a = leb 1 (cellsIn cells)} p in
-    let s = both {a = leb (cellsIn cells) 255} (q .1) in
-    record {
-      some = leb-true 1 (cellsIn cells) (q .0);
-      few = leb-true (cellsIn cells) 255 (s .0);
-      room = eqb-true (length bytes) (256 * cellsIn cells) (s .1);
-    }
-
--- ---- a cell
-
-module _ (cells : List ℕ) (cell : ℕ) where
-  pub cell-beyond : length cells / 2 ≤ cell → false ≡ cellRight cells cell
-  unfolding cellRight
-  cell-beyond h = rw (le-ltb cell (length cells / 2) h)
-
-  module _ (here : cell < length cells / 2) where
-    pub cell-free : {n : ℕ} → n ≡ getD cells (2 * cell) 0 → n < 1 → false ≡ cellRight cells cell
-    unfolding cellRight
-    cell-free e h = rw (lt-ltb cell (length cells / 2) here, lt-leb 1 (getD cells (2 * cell) 0) (omega arith))
-
-    pub cell-length : {n : ℕ} → n ≡ getD cells (2 * cell) 0 → 1 ≤ n → leb n 257 ≡ cellRight cells cell
-    unfolding cellRight
-    cell-length e h = rw (lt-ltb cell (length cells / 2) here, le-leb 1 (getD cells (2 * cell) 0) (omega arith), e)
-
--- what a right cell is
-pub cell-right : (cells : List ℕ) (cell : ℕ) → cellRight cells cell ≡ true → Cell cells cell
-unfolding cellRight
-cell-right cells cell e =
-    let p = both {a = ltb cell (cellsIn cells)} e in
-    let q = both {a = leb 1 (lengthWord cells cell)} (p .1) in
-    record {
-      lent = ltb-true cell (cellsIn cells) (p .0);
-      taken = leb-true 1 (lengthWord cells cell) (q .0);
-      short = leb-true (lengthWord cells cell) 257 (q .1);
-    }
 
 -- ---- an entry
 
@@ -182,13 +121,6 @@ module _ (cells : List ℕ) (es : List Entry) where
 
 pub ruleset judged = (
   needs,
-  lent-odd,
-  lent-none,
-  lent-many,
-  lent-bytes,
-  cell-beyond,
-  cell-free,
-  cell-length,
   kind-beyond,
   kind-link,
   kind-cell,

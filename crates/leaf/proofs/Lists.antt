@@ -1,22 +1,14 @@
 -- Every member, and the first that passes a test, by positions. Assumes nothing.
 use Prim.Native.Nat.{ℕ, zero, suc, _≤_, _<_}
-use mathlib.Core.Path.{_≡_, refl, sym, ap}
+use mathlib.Core.Path.{_≡_, refl, ap}
 use mathlib.Core.Bool.{Bool, true, false, _&&_}
 use mathlib.Core.List.{List, [], _∷_, _++_, map}
 use native.Mathlib.Nat.{not-suc-le-zero, le-of-suc-le-suc}
 use native.Mathlib.Omega.{arith}
 use lib.ListN.{length, getD, take, drop}
 use Rattle.bank.specs.Lists.{hereOrLater}
+pub use Rattle.lent_cells.proofs.Cells.{never, both}
 use Rattle.leaf.specs.Lists.{every, firstWhere}
-
--- true is not false
-pub never : {A : Type 0} → true ≡ false → A
-never e = absurd (let z : _≡_ {A = ℕ} 0 1 = cc in omega arith)
-
-pub both : {a b : Bool} → a && b ≡ true → (a ≡ true) × (b ≡ true)
-both {a = true} {b = true} e = (refl, refl)
-both {a = true} {b = false} e = never (sym e)
-both {a = false} e = never (sym e)
 
 pub and-no : (a : Bool) → false ≡ a && false
 and-no true = refl

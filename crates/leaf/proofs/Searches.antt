@@ -1,29 +1,26 @@
 -- A law for each way in which a search returns. Assumes nothing.
-use Prim.Native.Nat.{ℕ, _+_, _*_, _-_, _%_, _≤_, _<_, min, Ordering, Ordering·gt}
-use mathlib.Core.Path.{_≡_, refl, sym, ap, ap₂, _∙_}
+use Prim.Native.Nat.{ℕ, _+_, _*_, _-_, _%_, _≤_, _<_, Ordering, Ordering·gt}
+use mathlib.Core.Path.{_≡_, refl, sym, ap, _∙_}
 use mathlib.Core.Bool.{Bool, true, false, not}
 use mathlib.Core.List.{List, [], _∷_}
 use native.Mathlib.Omega.{arith}
 use native.Mathlib.Decide.{decLt}
 use lib.Dec.{isEq}
-use lib.ListN.{length, getD, take, drop}
-use lib.Seq.{drop-drop}
+use lib.ListN.{length, getD, drop}
 use borrow.Author.Count.{below-more}
 use borrow.Author.Needs.{needs}
 use borrow.Author.Tests.{lt-ltb, le-ltb, eq-eqb, ne-eqb, not-true, not-false}
 use Rattle.refusal.specs.Answer.{Answer, accepted, refused}
 use Rattle.refusal.specs.declared.Refusal.the-variants.{Node, Key, Memory}
 use Rattle.bank.specs.Bank.{slotAt}
-use Rattle.bank.proofs.Moves.{drop-take}
 use Rattle.nibbles.specs.Words.{validWord}
-use Rattle.order.specs.Bytes.{bytewise}
 use Rattle.order.specs.Layer.{classOf, classAt}
 use Rattle.ikey.specs.declared.Ordering.{Ordering as Ordered}
 use Rattle.ikey.specs.declared.Ordering.the-variants.{Less, Equal, Greater}
 use Rattle.ikey.specs.Said.{orderOf}
-use Rattle.ikey.proofs.Ikeys.{rest-of}
 use Rattle.key.specs.Keys.{fits}
 use Rattle.key.proofs.Fitting.{suffix-within}
+pub use Rattle.lent_cells.proofs.Cells.{suffix-less, suffix-equal, suffix-greater}
 use Rattle.leaf.specs.declared.Entry.{Entry}
 use Rattle.leaf.specs.Leaf.{none, slotsOf, inOrder, against, isLess, lentRight, Lent, Cell, ofKind, goodEntries}
 use Rattle.leaf.specs.Search.{
@@ -46,38 +43,6 @@ use Rattle.leaf.proofs.Lists.{every-at, first-at, first-none}
 use Rattle.leaf.proofs.Orders.{all-above}
 use Rattle.leaf.proofs.Views.{length-in-order, entry-in-order}
 use Rattle.leaf.proofs.Judged.{lent-right, cell-right, kind-has-cell, good-parts}
-
--- ---- the stored suffix
-
--- from a start on, or from the end where that is nearer
-part-from : (bytes : List ℕ) (a n start m : ℕ) → m ≡ min start n
-    → take (a + n - (a + m)) (drop (a + m) bytes) ≡ drop start (take n (drop a bytes))
-part-from bytes a n start m e =
-    elim (decLt n start) [
-      | yes l ↦
-          ap (λ (k : ℕ). take k (drop (a + m) bytes)) (let z : a + n - (a + m) ≡ 0 = omega arith in z)
-          ∙ ap (λ (k : ℕ). take k (drop start (drop a bytes))) (let z : 0 ≡ n - start = omega arith in z)
-          ∙ sym (drop-take start n (drop a bytes))
-      | no l ↦
-          ap₂ (λ (k j : ℕ). take k (drop j bytes)) (let z : a + n - (a + m) ≡ n - start = omega arith in z) (let z : a + m ≡ a + start = omega arith in z)
-          ∙ ap (take (n - start)) (sym (drop-drop start a bytes))
-          ∙ sym (drop-take start n (drop a bytes))
-    ]
-
-module _ (cells bytes : List ℕ) (cell : ℕ) (key : List ℕ) (start : ℕ) (r : Ordered) {m : ℕ} (e : m ≡ min start (getD cells (2 * cell) 0 - 1))
-    (o : orderOf r ≡ bytewise (take (256 * cell + (getD cells (2 * cell) 0 - 1) - (256 * cell + m)) (drop (256 * cell + m) bytes)) (take (length key - start) (drop start key))) where
-  suffixes : orderOf r ≡ bytewise (storedSuffix cells bytes cell start) (drop start key)
-  unfolding storedSuffix
-  suffixes = o ∙ ap₂ bytewise (part-from bytes (256 * cell) (getD cells (2 * cell) 0 - 1) start m e) (rest-of key start)
-
-  pub suffix-less : r ≡ Less → false ≡ sameBytes (storedSuffix cells bytes cell start) (drop start key)
-  suffix-less q = rw (← suffixes, q)
-
-  pub suffix-equal : r ≡ Equal → true ≡ sameBytes (storedSuffix cells bytes cell start) (drop start key)
-  suffix-equal q = rw (← suffixes, q)
-
-  pub suffix-greater : r ≡ Greater → false ≡ sameBytes (storedSuffix cells bytes cell start) (drop start key)
-  suffix-greater q = rw (← suffixes, q)
 
 -- ---- the entry that has the key's ikey and class
 
@@ -238,9 +203,6 @@ module _ (word : ℕ) (entries : List Entry) (cells bytes key : List ℕ) (ikey 
 
 pub ruleset searches = (
   needs,
-  suffix-less,
-  suffix-equal,
-  suffix-greater,
   met-layer,
   met-short,
   met-found,

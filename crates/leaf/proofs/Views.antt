@@ -12,8 +12,8 @@ use Rattle.refusal.proofs.Laws.{number-pos}
 use Rattle.bank.specs.Bank.{Bank, width, slotAt}
 use Rattle.bank.specs.Calls.{fromValue}
 use Rattle.bank.proofs.Counts.{slot-lt}
-use Rattle.permuter.specs.declared.Changed.{Changed}
-use Rattle.permuter.specs.declared.Changed.the-variants as C
+use Rattle.slot_answers.specs.declared.Changed.{Changed}
+use Rattle.slot_answers.specs.declared.Changed.the-variants as C
 use Rattle.permuter.specs.Answers.{saidChanged}
 use Rattle.nibbles.specs.Nibbles.{nibbles}
 use Rattle.nibbles.specs.Words.{bankOf, wordOf, validWord}

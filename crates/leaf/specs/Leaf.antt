@@ -1,14 +1,15 @@
 -- A leaf: a slot word of width 15 and fifteen entries. Its entries in order, and what document 01 asks of them.
-use Prim.Native.Nat.{ℕ, _≤_, _<_, _-_, _*_, _/_, _%_, Ordering, Ordering·lt, Ordering·eq, Ordering·gt}
-use mathlib.Core.Path.{_≡_}
+use Prim.Native.Nat.{ℕ, _-_, Ordering, Ordering·lt, Ordering·eq, Ordering·gt}
 use mathlib.Core.Bool.{Bool, true, false, _&&_, _||_}
 use mathlib.Core.List.{List, [], _∷_, _++_, map}
-use lib.Dec.{leb, ltb, eqb}
+use lib.Dec.{leb, eqb}
 use lib.ListN.{length, getD, take, replicate}
 use Rattle.bank.specs.Bank.{Bank}
 use Rattle.nibbles.specs.Words.{bankOf}
 use Rattle.order.specs.Layer.{classOf, atLayer}
 use Rattle.leaf.specs.declared.Entry.{Entry}
+pub use Rattle.lent_cells.specs.Cells.{cellsIn, Lent, lengthWord, Cell}
+unfoldable pub use Rattle.lent_cells.specs.Cells.{lentRight, cellRight}
 use Rattle.leaf.specs.Lists.{every}
 
 -- what stands past the end of the entries
@@ -61,37 +62,6 @@ lessThanFirst e (d ∷ es) = less e d
 unfoldable pub rising : List Entry → Bool
 rising [] = true
 rising (e ∷ es) = lessThanFirst e es && rising es
-
--- how many cells are lent: two words each, length + 1 (0 for a free cell) and the frame number
-abbrev pub cellsIn : List ℕ → ℕ
-cellsIn cells = length cells / 2
-
--- the lent lengths are right: 1 to 255 cells of two words, and 256 bytes for each
-unfoldable pub lentRight : List ℕ → List ℕ → Bool
-lentRight cells bytes =
-    eqb (length cells % 2) 0
-    && (leb 1 (cellsIn cells) && (leb (cellsIn cells) 255 && eqb (length bytes) (256 * cellsIn cells)))
-
--- what right lent lengths say
-pub record Lent (cells bytes : List ℕ) : Type 0 where
-  pub some : 1 ≤ cellsIn cells
-  pub few : cellsIn cells ≤ 255
-  pub room : length bytes ≡ 256 * cellsIn cells
-
--- the length + 1 of a cell
-abbrev pub lengthWord : List ℕ → ℕ → ℕ
-lengthWord cells cell = getD cells (2 * cell) 0
-
--- a cell that an entry may have: one of those lent, not free, of at most 256 bytes
-unfoldable pub cellRight : List ℕ → ℕ → Bool
-cellRight cells cell =
-    ltb cell (cellsIn cells) && (leb 1 (lengthWord cells cell) && leb (lengthWord cells cell) 257)
-
--- what a right cell is
-pub record Cell (cells : List ℕ) (cell : ℕ) : Type 0 where
-  pub lent : cell < cellsIn cells
-  pub taken : 1 ≤ lengthWord cells cell
-  pub short : lengthWord cells cell ≤ 257
 
 -- an entry of the kind that a leaf holds: a length of 0 to 8 or longer (9) with a cell, or a link (10)
 unfoldable pub ofKind : List ℕ → Entry → Bool

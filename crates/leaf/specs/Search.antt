@@ -1,21 +1,23 @@
 -- The search of a leaf: what it answers, by document 01's numbers.
-use Prim.Native.Nat.{ℕ, _-_, _*_, _≤_, _<_, Ordering·lt, Ordering·gt}
+use Prim.Native.Nat.{ℕ, _*_, _≤_, _<_, Ordering·lt, Ordering·gt}
 use mathlib.Core.Path.{_≡_}
 use mathlib.Core.Bool.{Bool, true, false, not, _&&_, _||_}
 use mathlib.Core.List.{List, [], _∷_}
 use lib.Dec.{ltb, eqb, isEq}
-use lib.ListN.{length, getD, take, drop}
+use lib.ListN.{length, getD, drop}
 use Rattle.refusal.specs.Answer.{Answer, Rule, accepted, refused, answered, _unless_}
 use Rattle.bank.specs.Bank.{slotAt}
 use Rattle.nibbles.specs.Words.{validWord}
-use Rattle.order.specs.Bytes.{Bytes, bytewise}
+use Rattle.order.specs.Bytes.{Bytes}
 use Rattle.order.specs.Layer.{ikeyAt, classAt}
 use Rattle.key.specs.Keys.{fits}
+pub use Rattle.lent_cells.specs.Cells.{storedKey, sameBytes}
+unfoldable pub use Rattle.lent_cells.specs.Cells.{storedSuffix}
 use Rattle.leaf.specs.declared.Entry.{Entry}
 use Rattle.leaf.specs.declared.Searched.{Searched}
 use Rattle.leaf.specs.declared.Searched.the-variants.{Found, Conflict, Layer, NotFound, Refused}
 use Rattle.leaf.specs.Lists.{firstWhere}
-use Rattle.leaf.specs.Leaf.{none, slotsOf, inOrder, rank, against, isLess, lentRight, lengthWord, goodEntries}
+use Rattle.leaf.specs.Leaf.{none, slotsOf, inOrder, rank, against, isLess, lentRight, goodEntries}
 
 -- The values of an accepted search: which outcome, and the slot or the position.
 abbrev pub found : ℕ → List ℕ
@@ -41,18 +43,6 @@ saidSearched (Refused why word) = refused why (word ∷ [])
 abbrev pub either : Bool → List ℕ → List ℕ → List ℕ
 either true a b = a
 either false a b = b
-
--- the stored key: the cell's bytes up to its length
-abbrev pub storedKey : List ℕ → List ℕ → ℕ → List ℕ
-storedKey cells bytes cell = take (lengthWord cells cell - 1) (drop (256 * cell) bytes)
-
--- the stored suffix: the cell's bytes from the key's suffix start on, or none
-unfoldable pub storedSuffix : List ℕ → List ℕ → ℕ → ℕ → List ℕ
-storedSuffix cells bytes cell start = drop start (storedKey cells bytes cell)
-
--- two suffixes are the same bytes
-abbrev pub sameBytes : List ℕ → List ℕ → Bool
-sameBytes a b = isEq (bytewise a b)
 
 -- the outcome at an entry with the key's ikey and class: a link is a layer; of two longer ones the suffixes decide between
 -- found and conflict; with up to 8 bytes ikey and length say all

@@ -3,8 +3,8 @@
 ghost use mathlib.Core.Path.{_≡_};
 ghost use mathlib.Core.Bool.{true};
 ghost use mathlib.Core.List.{[], _∷_};
-ghost use Prim.Native.Nat.{_%_, _*_, _<_, _≤_, min};
-ghost use lib.ListN.{length, getD, drop};
+ghost use Prim.Native.Nat.{_%_, _*_, _<_, _≤_};
+ghost use lib.ListN.{length, getD};
 ghost use Rattle.refusal.specs.Answer.{accepted, answered, _unless_};
 ghost use Rattle.bank.specs.Bank.{slotAt};
 ghost use Rattle.nibbles.specs.Words.{validWord};
@@ -12,11 +12,14 @@ ghost use Rattle.order.specs.Layer.{classOf, classAt};
 ghost use Rattle.ikey.specs.Said.{orderOf};
 ghost use Rattle.key.specs.Keys.{fits};
 ghost use Rattle.leaf.specs.Lists.{every};
-ghost use Rattle.leaf.specs.Leaf.{slotsOf, inOrder, against, less, rising, lentRight, Lent, cellRight, Cell, ofKind, goodEntries};
-ghost use Rattle.leaf.specs.Search.{saidSearched, storedSuffix, sameBytes, metWith, outcome, unlentSaid, lentSaid, Searchable};
+ghost use Rattle.leaf.specs.Leaf.{slotsOf, inOrder, against, less, rising, lentRight, ofKind, goodEntries};
+ghost use Rattle.leaf.specs.Search.{saidSearched, metWith, outcome, unlentSaid, lentSaid, Searchable};
 use crate::Entry;
 use crate::Searched;
 use ikey::Ordering;
+pub use lent_cells::are_lent;
+pub use lent_cells::is_cell;
+pub use lent_cells::is_suffix;
 use permuter::Changed;
 use refusal::Refusal;
 
@@ -43,38 +46,6 @@ pub fn slot_at(word: u64, i: usize) -> usize
     ensures { λ r. ⌜ (r ≡ slotAt i (slotsOf word)) × (r < 15) ⌝ }
 {
     ((word >> (4 * (i + 1))) % 16) as usize
-}
-
-// The rule of the lent lengths.
-pub fn are_lent(cells: &[u64], bytes: &[u8]) -> bool
-    ensures { λ r. ⌜ r ≡ lentRight (now (cells .entry)) (now (bytes .entry)) ⌝ }
-{
-    let n = cells.len();
-    if n % 2 != 0 {
-        return false;
-    }
-    if n / 2 < 1 {
-        return false;
-    }
-    if 255 < n / 2 {
-        return false;
-    }
-    bytes.len() == 256 * (n / 2)
-}
-
-// A cell that an entry may have.
-pub fn is_cell(cells: &[u64], cell: u64) -> bool
-    ensures { λ r. ⌜ r ≡ cellRight (now (cells .entry)) cell ⌝ }
-{
-    let at = cell as usize;
-    if cells.len() / 2 <= at {
-        return false;
-    }
-    let length = cells[2 * at];
-    if length < 1 {
-        return false;
-    }
-    length <= 257
 }
 
 // An entry of the kind that a leaf holds.
@@ -177,32 +148,6 @@ pub fn not_lent(
     Searched::Refused {
         why: Refusal::Memory,
         word,
-    }
-}
-
-fn lesser(a: usize, b: usize) -> usize
-    ensures { λ r. ⌜ r ≡ min a b ⌝ }
-{
-    if a < b {
-        return a;
-    }
-    b
-}
-
-// Whether a cell's bytes from the key's suffix start on are the key's own from there on.
-pub fn is_suffix(cells: &[u64], bytes: &[u8], cell: u64, key: &[u8], start: usize) -> bool
-    requires { ⌜ Lent (now cells) (now bytes) × Cell (now cells) cell × (start ≤ length (now key)) ⌝ }
-    ensures { λ r. ⌜ r ≡ sameBytes (storedSuffix (now (cells .entry)) (now (bytes .entry)) cell start) (drop start (now (key .entry))) ⌝ }
-{
-    let at = cell as usize;
-    let length = cells[2 * at] as usize - 1;
-    let from = 256 * at + lesser(start, length);
-    let to = 256 * at + length;
-    let order = ikey::inside::compare_parts(&bytes[from..to], &key[start..]);
-    match order {
-        Ordering::Less => false,
-        Ordering::Equal => true,
-        Ordering::Greater => false,
     }
 }
 

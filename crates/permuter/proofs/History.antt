@@ -53,11 +53,11 @@ use Rattle.bank.proofs.Sorted.{sorted-size, sorted-width, sorted-once}
 use Rattle.bank.proofs.History.{back-again, withdrawn, handed-in-order, as-if-not}
 use Rattle.nibbles.specs.Nibbles.{pack, nibbles}
 use Rattle.nibbles.specs.Words.{bankOf, wordOf, goodWidth, validWord}
-use Rattle.permuter.specs.Words.{wordRules, changed}
+use Rattle.slot_answers.specs.Words.{wordRules, changed}
 use Rattle.permuter.specs.History.{doneBy, wordDoes}
 use Rattle.nibbles.proofs.Nibbles.{length-nibbles, pack-lt, nibbles-pack}
-use Rattle.permuter.proofs.Judgement.{Good, good-valid}
-use Rattle.permuter.proofs.Calls.{word-again}
+use Rattle.slot_answers.proofs.Judgement.{Good, good-valid}
+use Rattle.slot_answers.proofs.Calls.{word-again}
 
 -- ---- a bank that a word of width w can hold, packed and read again
 

@@ -13,7 +13,7 @@ use Rattle.bank.specs.Lists.{up}
 use Rattle.bank.specs.Bank.{sorted}
 use Rattle.bank.specs.History.{Step, ran}
 use Rattle.nibbles.specs.Words.{wordOf}
-use Rattle.permuter.specs.Words.{madeSorted, madeEmpty}
+use Rattle.slot_answers.specs.Words.{madeSorted, madeEmpty}
 use Rattle.permuter.specs.History.{wordDoes}
 use Rattle.permuter.proofs.History as history
 

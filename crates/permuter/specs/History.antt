@@ -8,7 +8,7 @@ use Rattle.refusal.specs.Answer.{Answer}
 use Rattle.bank.specs.Calls.{Change}
 use Rattle.bank.specs.History.{Done, releasedBy}
 use Rattle.nibbles.specs.Words.{bankOf}
-use Rattle.permuter.specs.Words.{changed}
+use Rattle.slot_answers.specs.Words.{changed}
 
 abbrev pub ifAccepted : Bool → List ℕ → List ℕ
 ifAccepted true slots = slots

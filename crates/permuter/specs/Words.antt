@@ -1,32 +1,3 @@
--- What each call on a slot word answers.
-use Prim.Native.Nat.{ℕ}
-use mathlib.Core.List.{List, [], _∷_}
-use lib.Dec.{leb}
-use Rattle.refusal.specs.Answer.{Answer, Rule, _unless_, answered}
-use Rattle.bank.specs.Bank.{sorted}
-use Rattle.bank.specs.Calls.{Change, Question, changeRules, after, handedOut, questionRules, told}
-use Rattle.nibbles.specs.Words.{bankOf, wordOf, goodWidth, validWord}
-
--- what every call on a word needs, and then what this one needs, by rising number
-abbrev pub wordRules : ℕ → ℕ → List Rule → List Rule
-wordRules w word rules = (1 unless goodWidth w) ∷ (2 unless validWord w word) ∷ rules
-
--- a call that hands a word back: the new word and what it tells beside it; refused, the word as given
-unfoldable pub changed : ℕ → ℕ → Change → Answer
-changed w word c =
-    answered (wordRules w word (changeRules c (bankOf w word)))
-    (wordOf (after c (bankOf w word)) ∷ handedOut c (bankOf w word))
-    (word ∷ [])
-
--- a call that tells a number of a word; refused, the word as given
-unfoldable pub asked : ℕ → ℕ → Question → Answer
-asked w word q =
-    answered (wordRules w word (questionRules q (bankOf w word))) (told q (bankOf w word) ∷ []) (word ∷ [])
-
--- the sorted word with n slots taken; there is no word to hand back
-unfoldable pub madeSorted : ℕ → ℕ → Answer
-madeSorted w n = answered ((1 unless goodWidth w) ∷ (4 unless leb n w) ∷ []) (wordOf (sorted w n) ∷ []) []
-
--- the empty word is the sorted one with no slot taken
-unfoldable pub madeEmpty : ℕ → Answer
-madeEmpty w = answered ((1 unless goodWidth w) ∷ []) (wordOf (sorted w 0) ∷ []) []
+-- What each call on a slot word answers, passed on from the crate of the answers.
+pub use Rattle.slot_answers.specs.Words.{wordRules}
+unfoldable pub use Rattle.slot_answers.specs.Words.{changed, asked, madeSorted, madeEmpty}

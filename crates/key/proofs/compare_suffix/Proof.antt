@@ -1,6 +1,6 @@
 -- `key::compare_suffix` meets its contract. Assumes nothing.
 use borrow.Author.Needs.{needs}
-use Rattle.key.proofs.Calls.{asking}
+use Rattle.key_layer.proofs.Calls.{asking}
 use Rattle.key.proofs.compare_suffix.Statement.{statement}
 use Rattle.key.proofs.compare_suffix.Tie as tie
 

@@ -1,6 +1,6 @@
 -- `key::full_data` meets its contract. Assumes nothing.
 use borrow.Author.Needs.{needs}
-use Rattle.key.proofs.Calls.{parts}
+use Rattle.key_layer.proofs.Calls.{parts}
 use Rattle.key.proofs.full_data.Statement.{statement}
 use Rattle.key.proofs.full_data.Tie as tie
 

@@ -1,7 +1,7 @@
 -- `key::suffix` meets its contract. Assumes nothing.
 use borrow.Author.Needs.{needs}
-use Rattle.key.proofs.Fitting.{withins}
-use Rattle.key.proofs.Calls.{parts}
+use Rattle.key_layer.proofs.Fitting.{withins}
+use Rattle.key_layer.proofs.Calls.{parts}
 use Rattle.key.proofs.suffix.Statement.{statement}
 use Rattle.key.proofs.suffix.Tie as tie
 

@@ -1,6 +1,6 @@
 -- `insert_from_back` meets its contract. Assumes nothing.
 use borrow.Author.Needs.{needs}
-use Rattle.permuter.proofs.Calls.{asks, calls}
+use Rattle.slot_answers.proofs.Calls.{asks, calls}
 use Rattle.permuter.proofs.insert_from_back.Statement.{statement}
 use Rattle.permuter.proofs.insert_from_back.Tie as tie
 

@@ -1,6 +1,6 @@
 -- `remove` meets its contract. Assumes nothing.
 use borrow.Author.Needs.{needs}
-use Rattle.permuter.proofs.Calls.{asks, calls}
+use Rattle.slot_answers.proofs.Calls.{asks, calls}
 use Rattle.permuter.proofs.remove.Statement.{statement}
 use Rattle.permuter.proofs.remove.Tie as tie
 

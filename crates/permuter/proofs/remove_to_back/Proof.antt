@@ -1,6 +1,6 @@
 -- `remove_to_back` meets its contract. Assumes nothing.
 use borrow.Author.Needs.{needs}
-use Rattle.permuter.proofs.Calls.{asks, calls}
+use Rattle.slot_answers.proofs.Calls.{asks, calls}
 use Rattle.permuter.proofs.remove_to_back.Statement.{statement}
 use Rattle.permuter.proofs.remove_to_back.Tie as tie
 

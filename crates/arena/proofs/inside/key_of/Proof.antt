@@ -1,6 +1,6 @@
 -- `inside::key_of` meets its contract. Assumes nothing.
 use borrow.Author.Needs.{needs}
-use Rattle.arena.proofs.Words.{between}
+use Rattle.lent_words.proofs.Words.{between}
 use Rattle.arena.proofs.inside.key_of.Statement.{statement}
 use Rattle.arena.proofs.inside.key_of.Tie as tie
 

@@ -1,0 +1,3 @@
+pub mod Judgement
+pub mod Calls
+pub mod Making

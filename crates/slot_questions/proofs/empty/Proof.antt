@@ -1,0 +1,17 @@
+-- `empty` meets its contract. Assumes nothing.
+use borrow.Author.Needs.{needs}
+use Rattle.slot_answers.proofs.Making.{made}
+use Rattle.slot_questions.proofs.empty.Statement.{statement}
+use Rattle.slot_questions.proofs.empty.Tie as tie
+
+returns : tie.Need-returns
+returns c = search made
+
+returns-2 : tie.Need-returns-2
+returns-2 c = search made
+
+returns-3 : tie.Need-returns-3
+returns-3 c = search made
+
+pub empty-spec : {M : Type 1} → statement M
+empty-spec = tie.close (tie.spec returns returns-2 (λ c κs. search needs) returns-3)
