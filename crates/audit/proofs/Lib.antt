@@ -1,0 +1,5 @@
+pub mod Edges
+pub mod Steps
+pub mod Rests
+pub mod Judging
+pub mod One

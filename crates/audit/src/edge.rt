@@ -1,0 +1,52 @@
+// The ikeys between which a node lies on the way down.
+ghost use mathlib.Core.Path.{_≡_};
+ghost use mathlib.Core.Bool.{_&&_};
+ghost use Prim.Native.Nat.{suc};
+ghost use lib.Dec.{leb, ltb};
+ghost use Rattle.audit.specs.Audit.{leftOf, rightOf};
+
+// An ikey to the left or to the right, where there is one.
+pub struct Edge {
+    pub known: bool,
+    pub ikey: u64,
+}
+
+// An ikey lies at or above the left edge.
+pub(crate) fn is_from(low: Edge, ikey: u64) -> bool
+    ensures { λ r. ⌜ r ≡ leb (leftOf low) (suc ikey) ⌝ }
+{
+    if !low.known {
+        return true;
+    }
+    low.ikey <= ikey
+}
+
+// An ikey lies below the right edge.
+pub(crate) fn is_before(high: Edge, ikey: u64) -> bool
+    ensures { λ r. ⌜ r ≡ ltb (suc ikey) (rightOf high) ⌝ }
+{
+    if !high.known {
+        return true;
+    }
+    ikey < high.ikey
+}
+
+// An entry's ikey lies at or above the left edge and below the right one.
+pub(crate) fn is_within(low: Edge, high: Edge, ikey: u64) -> bool
+    ensures { λ r. ⌜ r ≡ (leb (leftOf low) (suc ikey) && ltb (suc ikey) (rightOf high)) ⌝ }
+{
+    if !is_from(low, ikey) {
+        return false;
+    }
+    is_before(high, ikey)
+}
+
+// The left edge lies strictly below the right one.
+pub(crate) fn is_between(low: Edge, high: Edge) -> bool
+    ensures { λ r. ⌜ r ≡ ltb (leftOf low) (rightOf high) ⌝ }
+{
+    if !low.known {
+        return true;
+    }
+    is_before(high, low.ikey)
+}

@@ -1,0 +1,10 @@
+pub mod Decides
+pub mod Witnesses
+pub mod Inside
+pub mod NodeWalk
+pub mod Heights
+pub mod LayerWalk
+pub mod Beyond
+pub mod Accepts
+pub mod One
+pub mod Cleared

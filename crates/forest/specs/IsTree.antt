@@ -1,0 +1,40 @@
+-- Memory is a tree by these rules: document 01's paragraph, in its order.
+use Prim.Native.Nat.{ℕ, _≤_, _<_}
+use mathlib.Core.Path.{_≡_}
+use mathlib.Core.List.{List, []}
+use lib.Dec.{T}
+use lib.ListN.{length, getD}
+use Rattle.arena.specs.Layout as layout
+use Rattle.arena.specs.Memory.{Memory, nodeCount, cellCount, rightLengths}
+use Rattle.forest.specs.Nodes.{nodeFree}
+use Rattle.forest.specs.Cells.{cellFree}
+use Rattle.forest.specs.Trees.{nodeNo, cellNo}
+use Rattle.forest.specs.Layers.{Layer, rootOf, reached, Held, InEdges, Filed, listed}
+
+-- no layer is over 31 links down
+abbrev pub Layers : Type 0
+Layers = Layer 31
+
+-- Memory m is the tree v.
+pub record IsTree (m : Memory) (v : Layers) : Type 0 where
+  -- the lent lengths are right, the header has the number of the root, and a zero
+  pub lent : T (rightLengths (length (m .nodes)) (length (m .cells)) (length (m .bytes)))
+  pub rooted : layout.rootOf (m .nodes) ≡ rootOf v
+  pub kept-zero : getD (m .nodes) 1 0 ≡ 0
+  -- leaf words are valid at width 15, leaf entries and internodes are as described, all leaves of one layer are equally deep;
+  -- places not in use are zero
+  pub held : Held (m .nodes) 31 v
+  -- each entry's ikey lies at or above the ikey to its left on the way down and below the one to its right; internode ikeys lie
+  -- strictly between those two
+  pub in-edges : InEdges 31 v
+  -- every node in use is reached exactly once and every cell in use belongs to one entry
+  pub at-most-once : (i : ℕ) → reached 31 v i ≤ 1
+  -- the cell's key has the ikeys of the links above it, then the entry's own ikey and length class; bytes past its end are zero
+  pub filed : Filed (m .cells) (m .bytes) 31 [] v
+  -- everything not reached is marked free, and zero
+  pub other-nodes : (k : ℕ) → k < nodeCount (length (m .nodes)) → reached 31 v (nodeNo k) ≡ 0 → T (nodeFree (m .nodes) k)
+  pub other-cells : (c : ℕ) → c < cellCount (length (m .cells)) → reached 31 v (cellNo c) ≡ 0 → T (cellFree (m .cells) (m .bytes) c)
+
+-- its keys and frames, in order
+abbrev pub listing : Memory → Layers → List (List ℕ × ℕ)
+listing m v = listed (m .cells) (m .bytes) 31 v

@@ -1,0 +1,6 @@
+pub mod Nodes
+pub mod Cells
+pub mod Trees
+pub mod Layers
+pub mod IsTree
+pub mod Walk

@@ -1,0 +1,220 @@
+# The index over lent memory: clear, put, find, remove and the k-th entry.
+#
+# Every call answers Answer(number, key, frame): number 0 is accepted, else the refusal.
+
+from collections import namedtuple
+
+import nodes
+from audit import is_tree
+from keys import LINK, LONGER, LONGEST, class_at, ikey_at, rank
+from listing import listing
+from memory import LEAF
+
+TOO_LONG, NOT_A_TREE, STORED, NOT_STORED, NO_ROOM = 7, 10, 11, 12, 13
+FOUND, CONFLICT, ABSENT = "found", "conflict", "absent"
+WIDTH = nodes.WIDTH
+
+Answer = namedtuple("Answer", "number key frame", defaults=(None, None))
+
+# Where a key belongs. layer: its layer's number from the top. above: the (leaf, slot) of the link to that
+# layer, or None. path: the internodes on the way down. leaf, position: the entry found or in conflict, or the
+# place for a new one.
+Place = namedtuple("Place", "kind layer above path leaf position")
+
+ACCEPTED = Answer(0)
+
+
+# Everything becomes zero but node 0, which is an empty leaf and the root.
+def clear(memory):
+    if not memory.right_lengths():
+        return Answer(NOT_A_TREE)
+    memory.nodes[:] = [0] * len(memory.nodes)
+    memory.cells[:] = [0] * len(memory.cells)
+    memory.bytes[:] = bytes(len(memory.bytes))
+    nodes.write_leaf(memory, 0, [])
+    return ACCEPTED
+
+
+# Stores a new key. With audited=True the caller vouches for the memory.
+def put(memory, key, frame, audited=False):
+    refused = refusal_before(memory, key, audited)
+    if refused:
+        return refused
+    place = locate(memory, key)
+    if place.kind == FOUND:
+        return Answer(STORED)
+    free_cells = memory.free_cells()
+    if not free_cells or nodes_needed(memory, place, key) > len(memory.free_nodes()):
+        return Answer(NO_ROOM)
+    memory.set_cell(free_cells[0], key, frame)
+    if place.kind == CONFLICT:
+        grow_layers(memory, place, key, free_cells[0])
+    else:
+        add_to_leaf(memory, place, key, free_cells[0])
+    return ACCEPTED
+
+
+# Gives the frame number of a stored key.
+def find(memory, key, audited=False):
+    refused = refusal_before(memory, key, audited)
+    if refused:
+        return refused
+    place = locate(memory, key)
+    if place.kind != FOUND:
+        return Answer(NOT_STORED)
+    return Answer(0, key, memory.frame(cell_at(memory, place)))
+
+
+# Takes a stored key out; its cell is free again, its leaf stays.
+def remove(memory, key, audited=False):
+    refused = refusal_before(memory, key, audited)
+    if refused:
+        return refused
+    place = locate(memory, key)
+    if place.kind != FOUND:
+        return Answer(NOT_STORED)
+    memory.zero_cell(cell_at(memory, place))
+    nodes.drop_entry(memory, place.leaf, place.position)
+    return ACCEPTED
+
+
+# Gives key and frame of the entry with k entries before it.
+def kth(memory, k, audited=False):
+    refused = refusal_before(memory, b"", audited)
+    if refused:
+        return refused
+    entries = listing(memory)
+    return Answer(0, *entries[k]) if k < len(entries) else Answer(NOT_STORED)
+
+
+# The refusals that come before the key is looked for: 7, then 10.
+def refusal_before(memory, key, audited):
+    if len(key) > LONGEST:
+        return Answer(TOO_LONG)
+    if not audited and not is_tree(memory):
+        return Answer(NOT_A_TREE)
+    return None
+
+
+# The cell of the entry found.
+def cell_at(memory, place):
+    return nodes.entries_of(memory, place.leaf)[place.position][2]
+
+
+# The internodes on the way down from a layer's root, and the leaf they lead to.
+def descend(memory, root, ikey):
+    path, node = [], root
+    while memory.word(node, 0) != LEAF:
+        path.append(node)
+        ikeys, children = nodes.internode_of(memory, node)
+        node = children[sum(1 for other in ikeys if other <= ikey)]
+    return path, node
+
+
+# Goes down, layer by layer, to where a key is or belongs.
+def locate(memory, key):
+    layer, above, root = 0, None, memory.nodes[0]
+    while True:
+        wanted = ikey_at(key, layer), class_at(key, layer)
+        path, leaf = descend(memory, root, wanted[0])
+        entries = nodes.entries_of(memory, leaf)
+        position = sum(1 for ikey, kind, _ in entries if rank(ikey, kind) < wanted)
+        if position == len(entries) or rank(*entries[position][:2]) != wanted:
+            return Place(ABSENT, layer, above, path, leaf, position)
+        _, kind, number = entries[position]
+        if kind != LINK:
+            found = FOUND if memory.key(number) == key else CONFLICT
+            return Place(found, layer, above, path, leaf, position)
+        layer, above, root = layer + 1, (leaf, slot_of(memory, leaf, position)), number
+
+
+# The slot that holds the entry at a position.
+def slot_of(memory, leaf, position):
+    return nodes.words.slot_at(memory.word(leaf, 1), position)
+
+
+# How many nodes a put at this place takes.
+def nodes_needed(memory, place, key):
+    if place.kind == CONFLICT:
+        return shared_layers(key, memory.key(cell_at(memory, place)), place.layer + 1) + 1
+    if len(nodes.entries_of(memory, place.leaf)) < WIDTH:
+        return 0
+    full = 0
+    while full < len(place.path) and memory.word(place.path[-1 - full], 1) == WIDTH:
+        full += 1
+    return 1 + full + (1 if full == len(place.path) else 0)
+
+
+# From a layer on, how many layers in a row show equal ikeys with both keys longer.
+def shared_layers(one, other, layer):
+    count = 0
+    while (ikey_at(one, layer + count) == ikey_at(other, layer + count)
+           and class_at(one, layer + count) == class_at(other, layer + count) == LONGER):
+        count += 1
+    return count
+
+
+# Replaces the entry in conflict by a link, and builds the new layers with both keys below it.
+def grow_layers(memory, place, key, cell):
+    slot = slot_of(memory, place.leaf, place.position)
+    ikey, _, other_cell = nodes.entry_at(memory, place.leaf, slot)
+    other = memory.key(other_cell)
+    shared = shared_layers(key, other, place.layer + 1)
+    taken = memory.free_nodes()[:shared + 1]
+    nodes.set_entry(memory, place.leaf, slot, (ikey, LINK, taken[0]))
+    for step in range(shared):
+        link = ikey_at(key, place.layer + 1 + step), LINK, taken[step + 1]
+        nodes.write_leaf(memory, taken[step], [link])
+    bottom = place.layer + 1 + shared
+    nodes.write_leaf(memory, taken[shared], sorted([
+        (ikey_at(key, bottom), class_at(key, bottom), cell),
+        (ikey_at(other, bottom), class_at(other, bottom), other_cell)]))
+
+
+# Adds an entry to its leaf, which is split if it is full.
+def add_to_leaf(memory, place, key, cell):
+    entry = ikey_at(key, place.layer), class_at(key, place.layer), cell
+    entries = nodes.entries_of(memory, place.leaf)
+    if len(entries) < WIDTH:
+        nodes.add_entry(memory, place.leaf, place.position, entry)
+        return
+    entries.insert(place.position, entry)
+    cut = cut_of([ikey for ikey, _, _ in entries])
+    right = memory.free_nodes()[0]
+    nodes.write_leaf(memory, place.leaf, entries[:cut])
+    nodes.write_leaf(memory, right, entries[cut:])
+    add_to_parents(memory, place, entries[cut][0], right)
+
+
+# Where sixteen entries are cut: between different ikeys, nearest to the middle, the lower on a tie.
+def cut_of(ikeys):
+    cuts = [cut for cut in range(1, 16) if ikeys[cut - 1] != ikeys[cut]]
+    return min(cuts, key=lambda cut: (abs(cut - 8), cut))
+
+
+# Hands a new ikey and the node to its right up the path; full internodes are split, at the top comes a new root.
+def add_to_parents(memory, place, ikey, right):
+    left = place.leaf
+    for node in reversed(place.path):
+        ikeys, children = nodes.internode_of(memory, node)
+        spot = sum(1 for other in ikeys if other < ikey)
+        ikeys.insert(spot, ikey)
+        children.insert(spot + 1, right)
+        if len(ikeys) <= WIDTH:
+            nodes.write_internode(memory, node, ikeys, children)
+            return
+        left, right, ikey = node, memory.free_nodes()[0], ikeys[8]
+        nodes.write_internode(memory, node, ikeys[:8], children[:9])
+        nodes.write_internode(memory, right, ikeys[9:], children[9:])
+    root = memory.free_nodes()[0]
+    nodes.write_internode(memory, root, [ikey], [left, right])
+    set_layer_root(memory, place.above, root)
+
+
+# Writes a layer's new root into the link above it, or into the header.
+def set_layer_root(memory, above, root):
+    if above is None:
+        memory.nodes[0] = root
+    else:
+        leaf, slot = above
+        memory.set_word(leaf, nodes.NUMBERS + slot, root)

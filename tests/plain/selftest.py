@@ -1,0 +1,322 @@
+# Holds every part of this folder to the others and to worked examples.
+#
+#     python3 selftest.py          prints one line for each check, and fails on the first that does not hold
+#     python3 selftest.py --long   more calls, more scripts
+
+import random
+import sys
+import time
+
+import calls
+import damage
+import index
+import nodes
+import words
+from answers import PlainMap, output_for
+from audit import RULES, broken_rules, is_tree
+from crafted import CRAFTED
+from keys import LINK, class_at, ikey_at
+from listing import listing
+from memory import LEAF, Memory, dump, load
+from reach import WANTED, IndexStore, reached_by
+from replay import replayed
+from samples import GOOD, fresh, run
+from scripts import KINDS, script_of
+
+# A key fits one entry only, so a cell with two entries always breaks another rule too.
+NEVER_ALONE = {"cell once"}
+SIZES = [(1, 1), (1, 2), (1, 20), (2, 2), (2, 20), (3, 20), (4, 17), (5, 40), (6, 8), (12, 30), (40, 60), (64, 128),
+         (255, 255), (255, 3), (3, 255)]
+
+
+# Fails with what was got and what was expected.
+def same(got, expected, what):
+    if got != expected:
+        raise AssertionError("%s: got %r, expected %r" % (what, got, expected))
+
+
+# Slot words: worked examples, and validity over random walks at every width.
+def check_words(scale):
+    p2 = words.insert_from_back(words.empty(15), 15, 0)
+    p3 = words.insert_from_back(p2, 15, 0)
+    same(words.empty(15), 0x0123456789ABCDE0, "empty")
+    same((p2, p3), (0x123456789ABCDE01, 0x23456789ABCDE012), "insert twice")
+    same(words.remove(p3, 15, 0), 0x23456789ABCDE101, "remove")
+    same(words.make_sorted(15, 15), 0xEDCBA9876543210F, "full")
+    same(words.insert_from_back(0x1201, 3, 1), 0x2102, "width 3")
+    rng = random.Random(5)
+    for width in range(1, 16):
+        word = words.empty(width)
+        for _ in range(40 * scale):
+            size = words.size_of(word)
+            grow = size == 0 or (size < width and rng.random() < 0.6)
+            if grow:
+                word = words.insert_from_back(word, width, rng.randrange(size + 1))
+            else:
+                word = words.remove(word, width, rng.randrange(size))
+            same(words.valid(word, width), True, "valid")
+        same(words.valid(word | 1 << 63 | 1 << 60, width) and width < 15, False, "high bits")
+    return "widths 1 to 15"
+
+
+# Keys: worked examples.
+def check_keys(scale):
+    same((ikey_at(b"a", 0), ikey_at(b"a\0", 0)), (0x61 << 56, 0x61 << 56), "ikeys of 61 and 6100")
+    same((ikey_at(b"", 0), class_at(b"", 0)), (0, 0), "empty key")
+    same([class_at(bytes(n), 1) for n in (0, 8, 9, 16, 17, 256)], [0, 0, 1, 8, 9, 9], "classes")
+    return "examples"
+
+
+# Text form: what is dumped can be loaded, whatever its lengths.
+def check_text(scale):
+    memories = [make() for _, make in GOOD] + [Memory(0, 0), Memory.of([1, 0], [5], b"\0\1\0")]
+    for memory in memories:
+        same(load(dump(memory)).same(memory), True, "text form")
+    return "%d memories" % len(memories)
+
+
+# The longest keys: 31 nodes for the second of two that differ in the last byte, and not with 30 free.
+def check_longest(scale):
+    one, two = b"x" * 255 + b"1", b"x" * 255 + b"2"
+    for n, expected in ((31, 13), (32, 0)):
+        memory = run(fresh(n, 2), [(one, 1)])
+        before = memory.copy()
+        same(index.put(memory, two, 2).number, expected, "second long key")
+        same(memory.same(before), expected == 13, "refused means unchanged")
+    same(memory.free_nodes(), [], "31 nodes taken")
+    same([words.in_use(memory.word(node, 1)) for node in (0, 30, 31)], [[0], [0], [0, 1]], "chain of leaves")
+    links = [nodes.entry_at(memory, node, 0)[1:] for node in range(31)]
+    same(links, [(LINK, node + 1) for node in range(31)], "top down")
+    same(index.put(memory, bytes(257), 0).number, 7, "257 bytes")
+    return "with 30 and 31 nodes free"
+
+
+# Numbers: leaf upward, then the root; lowest first; halves, slots, and the root in the link above.
+def check_numbers(scale):
+    memory = run(fresh(5, 40), [(b"k%c" % i, i) for i in range(16)])
+    same((memory.nodes[0], memory.free_nodes()), (2, [3, 4]), "first split")
+    same(nodes.internode_of(memory, 2), ([ikey_at(b"k\x08", 0)], [0, 1]), "new root")
+    same([memory.word(leaf, 1) for leaf in (0, 1)], [words.make_sorted(15, 8)] * 2, "sorted words")
+    stem = b"eightby."
+    memory = run(fresh(6, 40), [(stem + b"%c" % i, i) for i in range(16)])
+    same((memory.nodes[0], nodes.entries_of(memory, 0)), (0, [(ikey_at(stem, 0), LINK, 3)]), "root below a link")
+    same(nodes.internode_of(memory, 3)[1], [1, 2], "halves below a link")
+    memory = run(fresh(1, 3), [(b"a", 1), (b"b", 2), (b"c", 3), (b"a", None), (b"d", 4)])
+    same(nodes.entries_of(memory, 0)[2], (ikey_at(b"d", 0), 1, 0), "cell used again")
+    same(words.in_use(memory.word(0, 1)), [1, 2, 3], "freed slot is not the next")
+    same(index.cut_of([1] + [2] * 10 + [3] * 5), 11, "cut above ten")
+    same(index.cut_of([1] * 3 + [2] * 10 + [3] * 3), 3, "the lower on a tie")
+    return "splits, layers, cells, cuts"
+
+
+# Three levels: 8 ikeys, the ninth up, 7; numbers from the leaf upward, then the root.
+def check_levels(scale):
+    for step in (1, -1):
+        numbers = list(range(1, 137))[::step]
+        memory = run(fresh(20, 136), [(number.to_bytes(2, "big"), number) for number in numbers[:-1]])
+        same((memory.nodes[0], memory.free_nodes()), (2, [17, 18, 19]), "sixteen leaves")
+        ikeys = nodes.internode_of(memory, 2)[0]
+        run(memory, [(numbers[-1].to_bytes(2, "big"), 0)])
+        same((memory.nodes[0], memory.free_nodes()), (19, []), "three levels")
+        (up,), halves = nodes.internode_of(memory, 19)
+        left, others = (nodes.internode_of(memory, half) for half in halves)
+        same((halves, len(left[0]), len(others[0])), ([2, 18], 8, 7), "halves")
+        same(17 in left[1] + others[1], True, "the leaf took the first number")
+        same(set(ikeys) < set(left[0] + [up] + others[0]), True, "ikeys kept")
+    return "rising and falling"
+
+
+# The separators of a layer by height, read from its internodes, leaves at height 0.
+def separators_in(memory, node):
+    if memory.word(node, 0) == LEAF:
+        return 0, []
+    ikeys, children = nodes.internode_of(memory, node)
+    below = [separators_in(memory, child) for child in children]
+    height = below[0][0] + 1
+    return height, sorted([(ikey, height) for ikey in ikeys] + [pair for _, pairs in below for pair in pairs])
+
+
+# Keys that fill one layer: rising, falling, shuffled, or many of few ikeys so that cuts move.
+def layer_keys(rng, kind):
+    if kind < 3:
+        keys = [number.to_bytes(2, "big") for number in range(200)]
+        rng.shuffle(keys)
+        return keys if kind == 2 else sorted(keys, reverse=kind == 1)
+    stems = [number.to_bytes(rng.choice((1, 2)), "big") for number in range(1, 40)]
+    keys = sorted({stem + bytes(rng.randrange(0, 9)) for stem in stems for _ in range(9)})
+    rng.shuffle(keys)
+    return keys[:200]
+
+
+# The count of room sees the same shape as the index has: separators and their heights, after every put.
+def check_shapes(scale):
+    levels = set()
+    for seed in range(8 * scale):
+        rng, memory, plain = random.Random(seed), fresh(60, 200), PlainMap(60, 200)
+        for key in layer_keys(rng, seed % 4):
+            same(index.put(memory, key, 1, audited=True).number, plain.put(key, 1), "put")
+            top = plain.room.top
+            same(separators_in(memory, memory.nodes[0]), (top.height, list(top.separators)), "separators")
+            if rng.random() < 0.1:
+                gone = rng.choice(sorted(plain.frames))
+                same(index.remove(memory, gone, audited=True).number, plain.remove(gone), "remove")
+        levels.add(top.height + 1)
+        same((broken_rules(memory), listing(memory)), (set(), plain.listing()), "tree and listing")
+    same(3 in levels, True, "three levels")
+    return "%d layers" % (8 * scale)
+
+
+# Refusals: the lowest number first, and nothing changed.
+def check_refusals(scale):
+    good = run(fresh(1, 1), [(b"a", 1)])
+    bad, short = good.copy(), good.copy()
+    bad.nodes[1] = 1
+    short.bytes.pop()
+    long, k = bytes(257), b"a"
+    cases = [(good, 11, 12, 0), (bad, 10, 10, 10), (short, 10, 10, 10)]
+    for memory, put, absent, found in cases:
+        before = memory.copy()
+        same(index.put(memory, k, 5).number, put, "put stored")
+        same(index.put(memory, b"b", 5).number, 13 if memory is good else 10, "put without room")
+        same([call(memory, b"b").number for call in (index.find, index.remove)], [absent] * 2, "not stored")
+        same((index.find(memory, k).number, index.kth(memory, 0).number), (found, found), "stored")
+        same(index.kth(memory, 1).number, absent, "k too large")
+        same([index.put(memory, long, 1).number, index.find(memory, long).number, index.remove(memory, long).number],
+             [7] * 3, "too long first")
+        same(memory.same(before), True, "nothing changed")
+    same((index.clear(short).number, index.clear(bad).number), (10, 0), "clear")
+    same(bad.same(fresh(1, 1)), True, "cleared")
+    return "7, 10, 11, 12, 13"
+
+
+# A key out of few bytes, so that beginnings agree.
+def random_key(rng):
+    stem = rng.choice((b"", b"", b"", b"abcdefgh", b"abcdefghABCDEFGH", bytes(8), bytes(24)))
+    key = stem + bytes(rng.choice(b"\0\0\1b\xff") for _ in range(rng.randrange(0, 11)))
+    return rng.choice((key, key, key, rng.randrange(3000).to_bytes(2, "big"), key.ljust(256, b"q")))
+
+
+# One random call on memory and map alike; its number, and whether it changed anything it should not.
+def random_call(rng, memory, plain):
+    stored = plain.listing()
+    key = rng.choice(stored)[0] if stored and rng.random() < 0.3 else random_key(rng)
+    kind = rng.choice(("put",) * 5 + ("remove",) * 3 + ("find", "kth"))
+    before = memory.copy()
+    if kind == "put":
+        frame = rng.randrange(1 << 64)
+        answer, expected = index.put(memory, key, frame), index.Answer(plain.put(key, frame))
+    elif kind == "remove":
+        answer, expected = index.remove(memory, key), index.Answer(plain.remove(key))
+    elif kind == "find":
+        number, frame = plain.find(key)
+        answer, expected = index.find(memory, key), index.Answer(number, None if number else key, frame)
+    else:
+        k = rng.randrange(len(stored) + 2)
+        answer = index.kth(memory, k)
+        expected = index.Answer(0, *stored[k]) if k < len(stored) else index.Answer(12)
+    same(answer, expected, kind)
+    if answer.number or kind in ("find", "kth"):
+        same(memory.same(before), True, "nothing changed by " + kind)
+    return answer.number
+
+
+# The index against a plain map, a tree after every call, for memories of many sizes.
+def check_calls(scale):
+    counts = {}
+    for n, c in SIZES:
+        rng = random.Random(1000 * n + c)
+        memory, plain = fresh(n, c), PlainMap(n, c)
+        for _ in range((1000 if n * c < 5000 else 400) * scale):
+            number = random_call(rng, memory, plain)
+            counts[number] = counts.get(number, 0) + 1
+            if number == 0:
+                same(broken_rules(memory), set(), "a tree after the call")
+                same(len(memory.free_nodes()), plain.room.free, "free nodes")
+        same(listing(memory), plain.listing(), "listing")
+    return "answers " + ", ".join("%d: %d" % pair for pair in sorted(counts.items()))
+
+
+# Calls on good memories that no calls have made: internodes without ikeys, bounds at the edges, roots elsewhere.
+def check_calls_on_crafted(scale):
+    made = 0
+    for name, make in GOOD + [(name, make) for name, verdict, make in CRAFTED if verdict]:
+        rng = random.Random(name)
+        memory = make()
+        frames = dict(listing(memory))
+        for _ in range(12 * scale):
+            key = rng.choice(sorted(frames)) if frames and rng.random() < 0.3 else random_key(rng)
+            if rng.random() < 0.7:
+                number = index.put(memory, key, 1).number
+                same(number in ((11,) if key in frames else (0, 13)), True, name)
+                frames.update({key: 1} if number == 0 else {})
+            else:
+                same(index.remove(memory, key).number, 0 if frames.pop(key, None) is not None else 12, name)
+            same((broken_rules(memory), listing(memory)), (set(), sorted(frames.items())), name)
+            made += 1
+    return "%d calls" % made
+
+
+# Memories laid out by hand have the verdict written beside them.
+def check_crafted(scale):
+    for name, verdict, make in CRAFTED:
+        same(is_tree(make()), bool(verdict), name)
+    return "%d memories" % len(CRAFTED)
+
+
+# Every rule is broken by some single change, and by some change or layout that breaks nothing else.
+def check_damage(scale):
+    broken, alone, tried = set(), set(), 0
+    for name, make in GOOD:
+        memory = make()
+        sets = list(damage.rules_broken_by_damage(memory))
+        same((broken_rules(memory), set() in sets), (set(), True), "undone, and some changes do no harm")
+        tried += len(sets)
+        broken = broken.union(*sets)
+        alone = alone.union(*(rules for rules in sets if len(rules) == 1))
+    same(set(RULES) - broken, set(), "rules never broken by a single change")
+    sets = [broken_rules(make()) for _, _, make in CRAFTED]
+    alone = alone.union(*(rules for rules in sets if len(rules) == 1))
+    same(set(RULES) - alone, NEVER_ALONE, "rules never broken alone")
+    return "%d changes, %d rules" % (tried, len(RULES))
+
+
+# The test files read back: every line holds, and there are some of each kind.
+def check_files(scale):
+    options = damage.options_from(["--sample", str(60 * scale), "--crafted", "--lengths"])
+    counts = replayed(damage.file_lines(options))
+    counts.update(replayed(calls.file_lines(1, 40 * scale)))
+    same(set(counts), {"memory", "set", "is", "try", "lent", "clear", "put", "del", "find", "kth", "sum"}, "kinds")
+    return "%d lines" % sum(counts.values())
+
+
+# Scripts: the plain map and the index answer alike, and together they reach what they were made for.
+def check_scripts(scale):
+    example = b"put 61 7\nput 6100 9\nfind 61\ndel 62\nlist"
+    expected = b"ok\nok\n7\nrefused 12\n2 entries\n61 7\n6100 9\n"
+    same((output_for(example), output_for(example + b"\n", IndexStore())), (expected, expected), "example")
+    reached, count = set(), 12 * len(KINDS) * scale
+    for seed in range(count):
+        script = script_of(seed)
+        same(script_of(seed), script, "the same script again")
+        same(output_for(script, IndexStore()), output_for(script), "script %d" % seed)
+        reached |= reached_by(script)
+    same(WANTED - reached, set(), "not reached")
+    return "%d scripts" % count
+
+
+CHECKS = [check_words, check_keys, check_text, check_longest, check_numbers, check_levels, check_shapes, check_refusals,
+          check_crafted, check_calls, check_calls_on_crafted, check_scripts, check_files, check_damage]
+
+
+# Runs all the checks.
+def main(arguments):
+    scale = 4 if "--long" in arguments else 1
+    for check in CHECKS:
+        start = time.time()
+        result = check(scale)
+        print("%-24s %5.1f s  %s" % (check.__name__[6:].replace("_", " "), time.time() - start, result), flush=True)
+    print("all checks hold")
+
+
+if __name__ == "__main__":
+    main(sys.argv[1:])
