@@ -1,0 +1,269 @@
+-- A law for each way in which a call on a leaf returns. Assumes nothing.
+use Prim.Native.Nat.{ℕ, suc, _+_, _*_, _-_, _%_, _/_, _≤_, _<_}
+use mathlib.Core.Path.{_≡_, refl, sym, ap, _∙_}
+use mathlib.Core.Bool.{Bool, true, false, not}
+use mathlib.Core.List.{List, [], _∷_, _++_, map}
+use native.Mathlib.Decide.{ℕ-discrete}
+use native.Mathlib.Numerals.{add-one}
+use native.Mathlib.Omega.{arith}
+use lib.Dec.{leb, ltb}
+use lib.ListN.{List·getD-append, length, getD, set, take, drop, replicate, length-append, length-map, length-drop}
+use lib.Seq.{length-take-le, getD-take, getD-drop, getD-append-add, getD-at, getD-set-same, getD-set-other, take-suc, take-all, set-at, append-snoc, ext-getD}
+use borrow.Author.Count.{below-more}
+use borrow.Author.Needs.{needs}
+use borrow.Author.Tests.{eq-eqb, ne-eqb}
+use Rattle.refusal.specs.Answer.{Answer, pick, accepted, refused}
+use Rattle.refusal.specs.declared.Refusal.{Refusal}
+use Rattle.refusal.specs.Refusals.{numberOf}
+use Rattle.refusal.proofs.Laws.{number-pos}
+use Rattle.bank.specs.Bank.{width, slotAt, either, insertedFromBack}
+use Rattle.bank.specs.Calls.{insertFromBack}
+use Rattle.nibbles.specs.Words.{wordOf, validWord}
+use Rattle.nibbles.proofs.Nibbles.{length-nibbles, small-nibbles}
+use Rattle.slot_answers.specs.declared.Inserted.{Inserted}
+use Rattle.slot_answers.specs.declared.Inserted.the-variants as I
+use Rattle.permuter.specs.Words.{changed, madeSorted}
+use Rattle.permuter.specs.Answers.{saidInserted}
+use Rattle.leaf.specs.declared.Entry.{Entry}
+use Rattle.leaf.specs.Leaf.{none, rank, slotsOf, inUse, less}
+use Rattle.leaf.specs.Search.{placeGreater}
+use Rattle.leaf.specs.Cut.{ikeyOf, differs, outward, cutOf}
+use Rattle.leaf.proofs.Lists.{getD-map, first-at, first-none, map-append}
+use Rattle.arena.specs.declared.inside.Leaf.{Leaf}
+use Rattle.arena.specs.Parts.{zeros}
+use Rattle.arena.specs.Layout.{wordAt, putLeaf}
+use Rattle.forest.specs.Nodes.{entryAt, entriesAt}
+use Rattle.model.specs.declared.Grown.{Grown}
+use Rattle.model.specs.declared.Grown.the-variants.{One, Two}
+use Rattle.model.specs.Leaves.{freshNode, entryPut, leafWith, fifteenAt, entryAdded, leafSplit, leafGrown}
+
+-- ---- the place where an entry belongs
+
+module _ (nodes : List ℕ) (k word : ℕ) (w : word ≡ wordAt nodes k 1) where
+  in-width : word % 16 ≤ length (slotsOf word .slots)
+  in-width = omega (arith, length-nibbles 15 (word / 16))
+
+  used : entriesAt nodes k ≡ map (entryAt nodes k) (inUse (slotsOf word))
+  unfolding entriesAt
+  used = ap (λ (x : ℕ). map (entryAt nodes k) (inUse (slotsOf x))) (sym w)
+
+  used-length : length (entriesAt nodes k) ≡ word % 16
+  used-length =
+      ap length used ∙ length-map (inUse (slotsOf word)) (entryAt nodes k)
+      ∙ length-take-le (word % 16) (slotsOf word .slots) in-width
+
+  used-at : (i : ℕ) {slot : ℕ} → i < word % 16 → slot ≡ slotAt i (slotsOf word) → getD (entriesAt nodes k) i none ≡ entryAt nodes k slot
+  used-at i {slot} l e =
+      ap (λ (es : List Entry). getD es i none) used
+      ∙ getD-map (entryAt nodes k) (inUse (slotsOf word)) i 0 none
+      (let z : i < length (inUse (slotsOf word)) = rw (length-take-le (word % 16) (slotsOf word .slots) in-width) l in z)
+      ∙ ap (entryAt nodes k) (getD-take (word % 16) (slotsOf word .slots) i 0 l ∙ sym e)
+
+  module _ (e : Entry) (i : ℕ) (f : (j : ℕ) → j < i → less e (getD (entriesAt nodes k) j none) ≡ false) where
+    module _ {slot : ℕ} {d : Entry} {r : Bool} (l : i < word % 16) (es : slot ≡ slotAt i (slotsOf word)) (ed : d ≡ entryAt nodes k slot) (er : r ≡ less e d) where
+      here : less e (getD (entriesAt nodes k) i none) ≡ r
+      here = ap (less e) (used-at i l es ∙ sym ed) ∙ sym er
+
+      pub greater-here : r ≡ true → i ≡ placeGreater (e .ikey) (rank e) (entriesAt nodes k)
+      greater-here t = first-at (less e) none (entriesAt nodes k) i (omega (arith, used-length)) f (here ∙ t)
+
+      pub greater-next : r ≡ false → (j : ℕ) → j < i + 1 → less e (getD (entriesAt nodes k) j none) ≡ false
+      greater-next t = below-more _ i f (here ∙ t)
+
+    pub greater-none : word % 16 ≤ i → word % 16 ≡ placeGreater (e .ikey) (rank e) (entriesAt nodes k)
+    greater-none l =
+        sym used-length ∙ first-none (less e) none (entriesAt nodes k) (λ j h. f j (omega (arith, used-length)))
+
+-- ---- columns of a leaf
+
+-- one field of the first i entries from a place on, and zeros
+unfoldable pub column : (Entry → ℕ) → List Entry → ℕ → ℕ → List ℕ
+column f es from i = map f (take i (drop from es)) ++ zeros (15 - i)
+
+module _ (f : Entry → ℕ) (es : List Entry) (from : ℕ) where
+  pub column-none : replicate 15 0 ≡ column f es from 0
+  unfolding column
+  column-none = refl
+
+  pub column-more : (i : ℕ) → i < 15 → from + i < length es → set (column f es from i) i (f (getD es (from + i) none)) ≡ column f es from (i + 1)
+  unfolding column
+  column-more i l h =
+      let z : 15 - i ≡ suc (15 - (i + 1)) = omega arith in
+      let long : length (map f (take i (drop from es))) ≡ i = length-map (take i (drop from es)) f ∙ length-take-le i (drop from es) (let y : i ≤ length (drop from es) = rw length-drop (omega arith) in y) in
+      let t : take (i + 1) (drop from es) ≡ take i (drop from es) ++ (getD es (from + i) none ∷ []) =
+      ap (λ (n : ℕ). take n (drop from es)) (add-one i)
+      ∙ take-suc (drop from es) i none (let y : i < length (drop from es) = rw length-drop (omega arith) in y)
+      ∙ ap (λ (x : Entry). take i (drop from es) ++ (x ∷ [])) (getD-drop from es i none) in
+      rw (z, t, map-append)
+      (set-at (map f (take i (drop from es))) 0 (zeros (15 - (i + 1))) (f (getD es (from + i) none)) i long
+      ∙ sym (append-snoc (map f (take i (drop from es))) (f (getD es (from + i) none)) (zeros (15 - (i + 1)))))
+
+-- each of the three columns with one entry more
+module _ (es : List Entry) (from n i : ℕ) {a : List ℕ} (long : length es ≡ 16) (few : n ≤ 15) (fits : from + n ≤ 16) (l : i < n) where
+  pub ikeys-more : a ≡ column (λ e. e .ikey) es from i → set a i (getD es (from + i) none .ikey) ≡ column (λ e. e .ikey) es from (i + 1)
+  ikeys-more q = rw q (column-more (λ e. e .ikey) es from i (omega arith) (omega arith))
+
+  pub classes-more : a ≡ column (λ e. e .class) es from i → set a i (getD es (from + i) none .class) ≡ column (λ e. e .class) es from (i + 1)
+  classes-more q = rw q (column-more (λ e. e .class) es from i (omega arith) (omega arith))
+
+  pub refs-more : a ≡ column (λ e. e .at) es from i → set a i (getD es (from + i) none .at) ≡ column (λ e. e .at) es from (i + 1)
+  refs-more q = rw q (column-more (λ e. e .at) es from i (omega arith) (omega arith))
+
+pub leaf-made : (es : List Entry) (from n i : ℕ) {word : ℕ} {a b d : List ℕ} → length es ≡ 16 → from + n ≤ 16 → i ≤ n → n ≤ i
+    → a ≡ column (λ e. e .ikey) es from i → b ≡ column (λ e. e .class) es from i → d ≡ column (λ e. e .at) es from i
+    → word ≡ getD (madeSorted 15 n .values) 0 0
+    → _≡_ {A = Leaf} (record { word = word; ikeys = a; classes = b; refs = d }) (leafWith (take n (drop from es)))
+unfolding column leafWith
+leaf-made es from n i h l p q ea eb ed ew =
+    let z : i ≡ n = omega arith in
+    let y : length (take n (drop from es)) ≡ n = length-take-le n (drop from es) (let x : n ≤ length (drop from es) = rw length-drop (omega arith) in x) in
+    rw (y, ea, eb, ed, ew, z)
+
+-- ---- sixteen entries
+
+module _ (nodes : List ℕ) (k p : ℕ) (e : Entry) where
+  -- the entries at all fifteen positions and one more at a position
+  unfoldable pub with-one : List Entry
+  with-one = take p (fifteenAt nodes k) ++ e ∷ drop p (fifteenAt nodes k)
+
+module _ (nodes : List ℕ) (k p : ℕ) (e : Entry) (few : p ≤ 15) where
+  fifteen : length (fifteenAt nodes k) ≡ 15
+  unfolding fifteenAt
+  fifteen = length-map (slotsOf (wordAt nodes k 1) .slots) (entryAt nodes k) ∙ length-nibbles 15 (wordAt nodes k 1 / 16)
+
+  fifteen-at : (i : ℕ) {word slot : ℕ} → word ≡ wordAt nodes k 1 → i < 15 → slot ≡ slotAt i (slotsOf word) → getD (fifteenAt nodes k) i none ≡ entryAt nodes k slot
+  unfolding fifteenAt
+  fifteen-at i {word} {slot} w l s =
+      getD-map (entryAt nodes k) (slotsOf (wordAt nodes k 1) .slots) i 0 none (let z : i < length (slotsOf (wordAt nodes k 1) .slots) = rw length-nibbles l in z)
+      ∙ ap (entryAt nodes k) (sym (s ∙ ap (λ (x : ℕ). slotAt i (slotsOf x)) w))
+
+  front : length (take p (fifteenAt nodes k)) ≡ p
+  front = length-take-le p (fifteenAt nodes k) (omega (arith, fifteen))
+
+  sixteen-long : length (with-one nodes k p e) ≡ 16
+  unfolding with-one
+  sixteen-long = simp (length-append, length-drop) (omega (arith, front, fifteen))
+
+  -- what stands at each place
+  module _ (i : ℕ) {word slot : ℕ} {d : Entry} (w : word ≡ wordAt nodes k 1) where
+    pub left-at : i < p → slot ≡ slotAt i (slotsOf word) → d ≡ entryAt nodes k slot → d ≡ getD (with-one nodes k p e) i none
+    unfolding with-one
+    left-at l s q =
+        q ∙ sym (List·getD-append (take p (fifteenAt nodes k)) (e ∷ drop p (fifteenAt nodes k)) none i (omega (arith, front))
+        ∙ getD-take p (fifteenAt nodes k) i none l ∙ fifteen-at i w (omega arith) s)
+
+    pub right-at : p < i → i < 16 → slot ≡ slotAt (i - 1) (slotsOf word) → d ≡ entryAt nodes k slot → d ≡ getD (with-one nodes k p e) i none
+    unfolding with-one
+    right-at l h s q =
+        let z : i ≡ length (take p (fifteenAt nodes k)) + suc (i - 1 - p) = omega (arith, front) in
+        q ∙ sym (ap (λ (n : ℕ). getD (take p (fifteenAt nodes k) ++ e ∷ drop p (fifteenAt nodes k)) n none) z
+        ∙ getD-append-add (take p (fifteenAt nodes k)) (e ∷ drop p (fifteenAt nodes k)) (suc (i - 1 - p)) none
+        ∙ getD-drop p (fifteenAt nodes k) (i - 1 - p) none
+        ∙ ap (λ (n : ℕ). getD (fifteenAt nodes k) n none) (let y : p + (i - 1 - p) ≡ i - 1 = omega arith in y)
+        ∙ fifteen-at (i - 1) w (omega arith) s)
+
+  pub here-at : (i : ℕ) → p ≤ i → i ≤ p → e ≡ getD (with-one nodes k p e) i none
+  unfolding with-one
+  here-at i l h =
+      sym (getD-at (take p (fifteenAt nodes k)) e (drop p (fifteenAt nodes k)) none i (front ∙ (let z : p ≡ i = omega arith in z)))
+
+  pub sixteen-done : (i : ℕ) {all : List Entry} → length all ≡ 16 → 16 ≤ i → ((j : ℕ) → j < i → getD all j none ≡ getD (with-one nodes k p e) j none)
+      → all ≡ take p (fifteenAt nodes k) ++ e ∷ drop p (fifteenAt nodes k)
+  unfolding with-one
+  sixteen-done i h l f = ext-getD none _ _ (h ∙ sym sixteen-long) (λ j m. f j (omega arith))
+
+-- one place more agrees
+pub agree-more : (all es : List Entry) (i : ℕ) (d : Entry) → length all ≡ 16 → i < 16 → ((j : ℕ) → j < i → getD all j none ≡ getD es j none) → d ≡ getD es i none
+    → (j : ℕ) → j < i + 1 → getD (set all i d) j none ≡ getD es j none
+agree-more all es i d w l f q j h =
+    elim (ℕ-discrete j i) [
+      | yes z ↦ rw z (getD-set-same all i d none (omega arith) ∙ q)
+      | no z ↦ getD-set-other all i j d none z ∙ f j (omega arith)
+    ]
+
+-- ---- the cut
+
+module _ (es : List Entry) (far : ℕ) (l : far < 8) (e : cutOf es ≡ outward (differs es) 8 far (8 - far)) where
+  opened : cutOf es ≡ either (differs es (8 - far)) (8 - far) (either (differs es (8 + far)) (8 + far) (outward (differs es) 8 (suc far) (8 - suc far)))
+  unfolding outward
+  opened = e ∙ ap (outward (differs es) 8 far) (let z : 8 - far ≡ suc (8 - suc far) = omega arith in z)
+
+  differ : (c : ℕ) → (ikeyOf es (c - 1) ≡ ikeyOf es c → ⊥) → differs es c ≡ true
+  differ c n = ap not (ne-eqb (ikeyOf es (c - 1)) (ikeyOf es c) n)
+
+  same : (c : ℕ) → ikeyOf es (c - 1) ≡ ikeyOf es c → differs es c ≡ false
+  same c n = ap not (eq-eqb (ikeyOf es (c - 1)) (ikeyOf es c) n)
+
+  pub cut-low : (ikeyOf es (8 - far - 1) ≡ ikeyOf es (8 - far) → ⊥) → 8 - far ≡ cutOf es
+  cut-low n = rw (opened, differ (8 - far) n)
+
+  module _ (s : ikeyOf es (8 - far - 1) ≡ ikeyOf es (8 - far)) where
+    pub cut-high : (ikeyOf es (8 + far - 1) ≡ ikeyOf es (8 + far) → ⊥) → 8 + far ≡ cutOf es
+    cut-high n = rw (opened, same (8 - far) s, differ (8 + far) n)
+
+    pub cut-next : ikeyOf es (8 + far - 1) ≡ ikeyOf es (8 + far) → cutOf es ≡ outward (differs es) 8 (far + 1) (8 - (far + 1))
+    cut-next n = rw (opened, same (8 - far) s, same (8 + far) n, add-one far)
+
+pub cut-none : (es : List Entry) (far : ℕ) → 8 ≤ far → far ≤ 8 → cutOf es ≡ outward (differs es) 8 far (8 - far) → 8 ≡ cutOf es
+unfolding outward
+cut-none es far l h e = let z : far ≡ 8 = omega arith in sym (rw z at e)
+
+-- ---- in two
+
+pub leaf-two : (nodes : List ℕ) (count k : ℕ) (es : List Entry) {c right : ℕ} {a b : Leaf} {m1 m2 : List ℕ} → c ≡ cutOf es
+    → right ≡ freshNode nodes count → a ≡ leafWith (take c (drop 0 es)) → m1 ≡ putLeaf nodes k a → length es ≡ 16
+    → b ≡ leafWith (take (16 - c) (drop c es)) → m2 ≡ putLeaf m1 right b
+    → (m2, Two (getD es c none .ikey) right) ≡ leafSplit nodes count k es
+unfolding leafSplit
+leaf-two nodes count k es {c} ec er ea e1 h eb e2 =
+    let z : take (16 - c) (drop c es) ≡ drop c es = take-all (16 - c) (drop c es) (simp length-drop (omega arith)) in
+    rw (e2, eb, z, e1, ea, er, ec)
+
+-- ---- an entry more
+
+module _ (nodes : List ℕ) (count k : ℕ) (e : Entry) {p : ℕ} {r : Inserted} (ep : p ≡ placeGreater (e .ikey) (rank e) (entriesAt nodes k))
+    (er : saidInserted r ≡ changed 15 (getD nodes (2 + k * 47 + 1) 0) (insertFromBack p)) where
+  pub leaf-one : {word slot : ℕ} {m1 m2 : List ℕ} → r ≡ I.Slot word slot → m1 ≡ set nodes (2 + k * 47 + 1) word → m2 ≡ entryPut m1 k slot e
+      → (m2, One) ≡ leafGrown nodes count k e
+  unfolding leafGrown entryAdded
+  leaf-one {word} {slot} q e1 e2 =
+      let a : accepted (word ∷ slot ∷ []) ≡ changed 15 (getD nodes (2 + k * 47 + 1) 0) (insertFromBack p) = sym (ap saidInserted q) ∙ er in
+      rw (← ep, ← a, e2, e1)
+
+  pub leaf-more : {why : Refusal} {word : ℕ} {es : List Entry} {m2 : List ℕ} {g : Grown} → r ≡ I.Refused why word
+      → es ≡ take p (fifteenAt nodes k) ++ e ∷ drop p (fifteenAt nodes k) → (m2, g) ≡ leafSplit nodes count k es → (m2, g) ≡ leafGrown nodes count k e
+  unfolding leafGrown entryAdded
+  leaf-more {why} {word} q es e2 =
+      let a : refused why (word ∷ []) ≡ changed 15 (getD nodes (2 + k * 47 + 1) 0) (insertFromBack p) = sym (ap saidInserted q) ∙ er in
+      let n = ne-eqb (numberOf why) 0 (λ z. omega (arith, number-pos why)) in
+      rw (← ep, ← a, n, ← es) e2
+
+-- the slot that an insertion hands out is one of sixteen
+second : Answer → ℕ
+second a = getD (a .values) 1 0
+
+small : (a b d : Bool) (x s word : ℕ) → s < 16
+    → second (pick a (pick b (pick d (accepted (x ∷ s ∷ [])) (record { number = 5; values = word ∷ [] })) (record { number = 4; values = word ∷ [] })) (record { number = 2; values = word ∷ [] })) < 16
+unfolding second
+small true true true x s word h = h
+small true true false x s word h = omega arith
+small true false d x s word h = omega arith
+small false b d x s word h = omega arith
+
+pub handed-lt : (word p : ℕ) {r : Inserted} {after slot : ℕ} → saidInserted r ≡ changed 15 word (insertFromBack p) → r ≡ I.Slot after slot → slot < 16
+unfolding changed second
+handed-lt word p {r} {after} {slot} e q =
+    let z : slot ≡ second (changed 15 word (insertFromBack p)) = ap second (sym (ap saidInserted q) ∙ e) in
+    rw z
+    (small (validWord 15 word) (leb p (slotsOf word .size)) (ltb (slotsOf word .size) (width (slotsOf word))) (wordOf (insertedFromBack p (slotsOf word))) (slotAt (width (slotsOf word) - 1) (slotsOf word)) word
+    (small-nibbles 15 (word / 16) (length (slotsOf word .slots) - 1) (omega (arith, length-nibbles 15 (word / 16)))))
+
+pub ruleset greater = (needs, greater-here, greater-next, greater-none)
+
+pub ruleset columns = (needs, column-none, ikeys-more, classes-more, refs-more, leaf-made)
+
+pub ruleset sixteens = (needs, left-at, right-at, here-at, agree-more, sixteen-done)
+
+pub ruleset cuts = (needs, cut-low, cut-high, cut-next, cut-none)
+
+pub ruleset leaves = (needs, leaf-two, leaf-one, leaf-more, handed-lt)

@@ -1,0 +1,105 @@
+-- A law for each way in which a word, an entry or a slot word of a node is changed. Assumes nothing.
+use Prim.Native.Nat.{ℕ, _+_, _*_, _≤_, _<_}
+use mathlib.Core.Path.{_≡_, refl, sym, ap, _∙_}
+use mathlib.Core.List.{List, [], _∷_}
+use native.Mathlib.Omega.{arith}
+use lib.ListN.{length, getD, set}
+use lib.Seq.{set-out}
+use borrow.Author.Needs.{needs}
+use Rattle.refusal.specs.Answer.{Answer}
+use Rattle.refusal.specs.declared.Refusal.{Refusal}
+use Rattle.bank.specs.Bank.{slotAt}
+use Rattle.bank.specs.Calls.{remove}
+use Rattle.slot_answers.specs.declared.Changed.{Changed}
+use Rattle.slot_answers.specs.declared.Changed.the-variants as C
+use Rattle.slot_answers.specs.declared.Made.{Made}
+use Rattle.slot_answers.specs.declared.Made.the-variants as M
+use Rattle.permuter.specs.Words.{changed, madeSorted}
+use Rattle.permuter.specs.Answers.{saidChanged, saidMade}
+use Rattle.leaf.specs.declared.Entry.{Entry}
+use Rattle.leaf.specs.Leaf.{none, slotsOf}
+use Rattle.arena.specs.declared.inside.Lowest.{Lowest}
+use Rattle.arena.specs.declared.inside.Lowest.the-variants.{At, Nothing}
+use Rattle.arena.specs.Layout.{wordAt, nodeStart}
+use Rattle.arena.specs.Free.{isFree, freeNodes, lowest}
+use Rattle.arena.proofs.Frees.{first-passing}
+use Rattle.model.specs.Leaves.{freshNode, entryPut, entryTaken}
+
+-- a place past the end takes no word
+pub put-past : (ws : List ℕ) (at w : ℕ) → length ws ≤ at → ws ≡ set ws at w
+put-past ws at w h = sym (set-out ws at w h)
+
+-- ---- the lowest free node
+
+none-told : {k : ℕ} → At k ≡ Nothing → ⊥
+none-told e = let z : _≡_ {A = ℕ} 0 1 = cc in omega arith
+
+module _ (nodes : List ℕ) (count : ℕ) {r : Lowest} (e : r ≡ lowest (freeNodes nodes count)) where
+  pub fresh-at : {k : ℕ} → r ≡ At k → k ≡ freshNode nodes count
+  fresh-at {k} a = by (freeNodes nodes count) (sym a ∙ e)
+    where
+      by : (ks : List ℕ) → At k ≡ lowest ks → k ≡ getD ks 0 0
+      by [] d = absurd (none-told d)
+      by (x ∷ ks) d = cc
+
+  pub fresh-none : r ≡ Nothing → 0 ≡ freshNode nodes count
+  fresh-none a = by (freeNodes nodes count) (sym a ∙ e)
+    where
+      by : (ks : List ℕ) → Nothing ≡ lowest ks → 0 ≡ getD ks 0 0
+      by [] d = refl
+      by (x ∷ ks) d = absurd (none-told (sym d))
+
+  pub fresh-lt : {k : ℕ} → r ≡ At k → k < count
+  fresh-lt {k} a = by (freeNodes nodes count) refl (sym a ∙ e)
+    where
+      by : (ks : List ℕ) → freeNodes nodes count ≡ ks → At k ≡ lowest ks → k < count
+      by [] f d = absurd (none-told d)
+      by (x ∷ ks) f d =
+          let q : k ≡ x = cc in
+          omega (arith, first-passing (isFree nodeStart nodes) 0 count f .high)
+
+-- ---- entries
+
+pub entry-put : (m : List ℕ) (k slot : ℕ) (e : Entry) {m1 m2 m3 : List ℕ} → m1 ≡ set m (2 + k * 47 + 2 + slot) (e .ikey)
+    → m2 ≡ set m1 (2 + k * 47 + 17 + slot) (e .class) → m3 ≡ set m2 (2 + k * 47 + 32 + slot) (e .at) → m3 ≡ entryPut m k slot e
+unfolding entryPut
+entry-put m k slot e e1 e2 e3 = rw (e3, e2, e1)
+
+pub entry-taken : (m : List ℕ) (k p : ℕ) {word slot less : ℕ} {m1 m2 : List ℕ} → word ≡ wordAt m k 1 → slot ≡ slotAt p (slotsOf word)
+    → less ≡ getD (changed 15 word (remove p) .values) 0 0 → m1 ≡ set m (2 + k * 47 + 1) less → m2 ≡ entryPut m1 k slot none
+    → m2 ≡ entryTaken m k p
+unfolding entryTaken
+entry-taken m k p e1 e2 e3 e4 e5 = rw (e5, e4, e3, e2, e1)
+
+-- ---- slot words
+
+first-of : {a b : Answer} → a ≡ b → getD (a .values) 0 0 ≡ getD (b .values) 0 0
+first-of e = ap (λ (a : Answer). getD (a .values) 0 0) e
+
+module _ (word p : ℕ) {r : Changed} (e : saidChanged r ≡ changed 15 word (remove p)) where
+  pub without-word : {x : ℕ} → r ≡ C.Word x → x ≡ getD (changed 15 word (remove p) .values) 0 0
+  without-word q = first-of (sym (ap saidChanged q) ∙ e)
+
+  pub without-same : {why : Refusal} {x : ℕ} → r ≡ C.Refused why x → x ≡ getD (changed 15 word (remove p) .values) 0 0
+  without-same q = first-of (sym (ap saidChanged q) ∙ e)
+
+module _ (n : ℕ) {r : Made} (e : saidMade r ≡ madeSorted 15 n) where
+  pub sorted-word : {x : ℕ} → r ≡ M.Word x → x ≡ getD (madeSorted 15 n .values) 0 0
+  sorted-word q = first-of (sym (ap saidMade q) ∙ e)
+
+  pub sorted-none : {why : Refusal} → r ≡ M.Refused why → 0 ≡ getD (madeSorted 15 n .values) 0 0
+  sorted-none q = first-of (sym (ap saidMade q) ∙ e)
+
+pub ruleset words = (
+  needs,
+  put-past,
+  fresh-at,
+  fresh-none,
+  fresh-lt,
+  entry-put,
+  entry-taken,
+  without-word,
+  without-same,
+  sorted-word,
+  sorted-none,
+)

@@ -1,0 +1,28 @@
+-- `edit::inside::grow_leaf` meets its contract. Assumes nothing.
+use borrow.Author.Needs.{needs}
+use Rattle.edit.proofs.Leaves.{leaves}
+use Rattle.edit.proofs.inside.grow_leaf.Statement.{statement}
+use Rattle.edit.proofs.inside.grow_leaf.Tie as tie
+
+pub grow-leaf-spec : {M : Type 1} → statement M
+grow-leaf-spec =
+    tie.close
+    (tie.spec
+    (λ c κs. search needs)
+    (λ c. search needs)
+    (λ c. search needs)
+    (λ c. search needs)
+    (λ c. search needs)
+    (λ c. search needs)
+    (λ c κs. search needs)
+    (λ c. search needs)
+    (λ c. search needs)
+    (λ c κs. search needs)
+    (λ c κs. search leaves)
+    (λ c. search needs)
+    (λ c. search leaves)
+    (λ c. search needs)
+    (λ c κs. search needs)
+    (λ c κs. search needs)
+    (λ c. search needs)
+    (λ c. search leaves))

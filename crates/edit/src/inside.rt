@@ -1,0 +1,319 @@
+// One node of lent memory changed. What a caller must know stands in `requires`; what only a tree has is not required.
+ghost use mathlib.Core.Path.{_≡_};
+ghost use mathlib.Core.List.{_∷_, _++_};
+ghost use Prim.Native.Nat.{_+_, _-_, _*_, _≤_, _<_};
+ghost use lib.ListN.{length, getD, set, take, drop};
+ghost use Rattle.bank.specs.Calls.{remove};
+ghost use Rattle.permuter.specs.Words.{changed, madeSorted};
+ghost use Rattle.internode.specs.Node.{childPlace};
+ghost use Rattle.leaf.specs.Leaf.{rank};
+ghost use Rattle.leaf.specs.Search.{placeGreater};
+ghost use Rattle.leaf.specs.Cut.{cutOf};
+ghost use Rattle.arena.specs.Layout.{nodeStart};
+ghost use Rattle.forest.specs.Nodes.{entriesAt, countAt};
+ghost use Rattle.model.specs.Leaves.{freshNode, entryPut, entryTaken, leafWith, fifteenAt, leafSplit, leafGrown};
+ghost use Rattle.model.specs.Internodes.{internodeIn, internodePut, internodeSplit, internodeGrown, overTwo};
+use arena::inside::Leaf;
+use arena::inside::Lowest;
+use internode::Internode;
+use leaf::Entry;
+use model::Grown;
+use permuter::Changed;
+use permuter::Inserted;
+use permuter::Made;
+use seek::inside::entry_of;
+use seek::inside::slot_of;
+use seek::inside::word_of;
+
+// ---- words
+
+// A word of memory, if there is such a word.
+pub fn put_at(words: &mut [u64], at: usize, w: u64)
+    ensures { λ _. ⌜ now (words .exit) ≡ set (now (words .entry)) at w ⌝ }
+{
+    if words.len() <= at {
+        return;
+    }
+    words[at] = w;
+}
+
+// The lowest free node, 0 where none is free.
+pub fn lowest(nodes: &[u64], count: usize) -> usize
+    requires { ⌜ (nodeStart count ≡ length (now nodes)) × (1 ≤ count) ⌝ }
+    ensures { λ r. ⌜ (r ≡ freshNode (now (nodes .entry)) count) × (r < count) ⌝ }
+{
+    let Lowest::At(k) = arena::inside::lowest_free_node(nodes, count) else {
+        return 0;
+    };
+    k
+}
+
+// ---- leaves
+
+// The three numbers of an entry into a slot.
+pub fn put_entry(nodes: &mut [u64], k: usize, slot: usize, e: Entry)
+    requires { ⌜ (k < 255) × (slot < 16) ⌝ }
+    ensures { λ _. ⌜ now (nodes .exit) ≡ entryPut (now (nodes .entry)) k slot e ⌝ }
+{
+    let at = 2 + k * 47;
+    put_at(nodes, at + 2 + slot, e.ikey);
+    put_at(nodes, at + 17 + slot, e.class);
+    put_at(nodes, at + 32 + slot, e.at);
+}
+
+// An entry less.
+pub fn take_entry(nodes: &mut [u64], k: usize, p: usize)
+    requires { ⌜ (length (now nodes) ≤ 11987) × (k < 255) × (p < 15) ⌝ }
+    ensures { λ _. ⌜ now (nodes .exit) ≡ entryTaken (now (nodes .entry)) k p ⌝ }
+{
+    let word = word_of(nodes, k as u64, 1);
+    let slot = slot_of(word, p);
+    put_at(nodes, 2 + k * 47 + 1, without(word, p));
+    put_entry(
+        nodes,
+        k,
+        slot,
+        Entry {
+            ikey: 0,
+            class: 0,
+            at: 0,
+        },
+    );
+}
+
+// The slot word after `remove`, or as it was.
+fn without(word: u64, p: usize) -> u64
+    ensures { λ r. ⌜ r ≡ getD (changed 15 word (remove p) .values) 0 0 ⌝ }
+{
+    match permuter::remove(word, 15, p) {
+        Changed::Word(after) => after,
+        Changed::Refused { why: _, word: same } => same,
+    }
+}
+
+// The position where an entry belongs: the first whose entry is greater, or the size.
+pub fn place_greater(nodes: &[u64], k: usize, e: Entry) -> usize
+    requires { ⌜ (length (now nodes) ≤ 11987) × (k < 255) ⌝ }
+    ensures { λ r. ⌜ (r ≡ placeGreater (e .ikey) (rank e) (entriesAt (now (nodes .entry)) k)) × (r ≤ 15) ⌝ }
+{
+    let word = word_of(nodes, k as u64, 1);
+    let size = (word % 16) as usize;
+    let mut i: usize = 0;
+    while i < size {
+        let d = entry_of(nodes, k as u64, slot_of(word, i));
+        if leaf::inside::is_less(e, d) {
+            return i;
+        }
+        i += 1;
+    }
+    size
+}
+
+// A leaf of n of these entries from a place on, in slots 0, 1, ..
+pub fn leaf_of(entries: [Entry; 16], from: usize, n: usize) -> Leaf
+    requires { ⌜ (n ≤ 15) × (from + n ≤ 16) ⌝ }
+    ensures { λ r. ⌜ r ≡ leafWith (take n (drop from entries)) ⌝ }
+{
+    let mut ikeys = [0u64; 15];
+    let mut classes = [0u64; 15];
+    let mut refs = [0u64; 15];
+    let mut i: usize = 0;
+    while i < n {
+        let e = entries[from + i];
+        ikeys[i] = e.ikey;
+        classes[i] = e.class;
+        refs[i] = e.at;
+        i += 1;
+    }
+    let word = sorted_word(n);
+    Leaf {
+        word,
+        ikeys,
+        classes,
+        refs,
+    }
+}
+
+fn sorted_word(n: usize) -> u64
+    requires { ⌜ n ≤ 15 ⌝ }
+    ensures { λ r. ⌜ r ≡ getD (madeSorted 15 n .values) 0 0 ⌝ }
+{
+    let Made::Word(word) = permuter::make_sorted(15, n) else {
+        return 0;
+    };
+    word
+}
+
+// The entries at all fifteen positions and one more at a position.
+pub fn sixteen(nodes: &[u64], k: usize, p: usize, e: Entry) -> [Entry; 16]
+    requires { ⌜ (length (now nodes) ≤ 11987) × (k < 255) × (p ≤ 15) ⌝ }
+    ensures { λ r. ⌜ r ≡ take p (fifteenAt (now (nodes .entry)) k) ++ e ∷ drop p (fifteenAt (now (nodes .entry)) k) ⌝ }
+{
+    let word = word_of(nodes, k as u64, 1);
+    let mut all = [Entry {
+        ikey: 0,
+        class: 0,
+        at: 0,
+    }; 16];
+    let mut i: usize = 0;
+    while i < 16 {
+        if i < p {
+            all[i] = entry_of(nodes, k as u64, slot_of(word, i));
+            i += 1;
+            continue;
+        }
+        if p < i {
+            all[i] = entry_of(nodes, k as u64, slot_of(word, i - 1));
+            i += 1;
+            continue;
+        }
+        all[i] = e;
+        i += 1;
+    }
+    all
+}
+
+// Where sixteen entries are cut: the ikeys on both sides differ, nearest to 8, the lower on a tie.
+pub fn cut(entries: [Entry; 16]) -> usize
+    ensures { λ r. ⌜ (r ≡ cutOf entries) × (1 ≤ r) × (r ≤ 15) ⌝ }
+{
+    let mut far: usize = 0;
+    while far < 8 {
+        if entries[8 - far - 1].ikey != entries[8 - far].ikey {
+            return 8 - far;
+        }
+        if entries[8 + far - 1].ikey != entries[8 + far].ikey {
+            return 8 + far;
+        }
+        far += 1;
+    }
+    8
+}
+
+// Sixteen entries in two leaves.
+pub fn split_leaf(nodes: &mut [u64], count: usize, k: usize, entries: [Entry; 16]) -> Grown
+    requires { ⌜ (nodeStart count ≡ length (now nodes)) × (k < count) × (count ≤ 255) ⌝ }
+    ensures { λ r. ⌜ (now (nodes .exit), r) ≡ leafSplit (now (nodes .entry)) count k entries ⌝ }
+{
+    let c = cut(entries);
+    let right = lowest(nodes, count);
+    let up = entries[c].ikey;
+    arena::inside::store_leaf(nodes, k, leaf_of(entries, 0, c));
+    arena::inside::store_leaf(nodes, right, leaf_of(entries, c, 16 - c));
+    Grown::Two {
+        ikey: up,
+        node: right as u64,
+    }
+}
+
+// An entry more in a leaf, in two if it is full.
+pub fn grow_leaf(nodes: &mut [u64], count: usize, k: usize, e: Entry) -> Grown
+    requires { ⌜ (nodeStart count ≡ length (now nodes)) × (k < count) × (count ≤ 255) ⌝ }
+    ensures { λ r. ⌜ (now (nodes .exit), r) ≡ leafGrown (now (nodes .entry)) count k e ⌝ }
+{
+    let p = place_greater(nodes, k, e);
+    let at = 2 + k * 47;
+    if let Inserted::Slot { word, slot } = permuter::insert_from_back(nodes[at + 1], 15, p) {
+        put_at(nodes, at + 1, word);
+        put_entry(nodes, k, slot, e);
+        return Grown::One;
+    }
+    let entries = sixteen(nodes, k, p, e);
+    split_leaf(nodes, count, k, entries)
+}
+
+// ---- internodes
+
+pub fn load(nodes: &[u64], k: usize) -> Internode
+    requires { ⌜ nodeStart k + 47 ≤ length (now nodes) ⌝ }
+    ensures { λ r. ⌜ r ≡ internodeIn (now (nodes .entry)) k ⌝ }
+{
+    let x = arena::inside::load_internode(nodes, k);
+    let n = x.n as usize;
+    let ikeys = x.ikeys;
+    let children = x.children;
+    Internode { n, ikeys, children }
+}
+
+pub fn store(nodes: &mut [u64], k: usize, x: Internode)
+    requires { ⌜ nodeStart k + 47 ≤ length (now nodes) ⌝ }
+    ensures { λ _. ⌜ now (nodes .exit) ≡ internodePut (now (nodes .entry)) k x ⌝ }
+{
+    let n = x.n as u64;
+    let ikeys = x.ikeys;
+    let children = x.children;
+    arena::inside::store_internode(nodes, k, arena::inside::Internode { n, ikeys, children });
+}
+
+// The place of the child after the last ikey not above this one, whatever the order of the ikeys.
+pub fn place_of(x: Internode, ikey: u64) -> usize
+    requires { ⌜ x .n ≤ 15 ⌝ }
+    ensures { λ r. ⌜ (r ≡ childPlace x ikey) × (r ≤ x .n) ⌝ }
+{
+    let mut j = x.n;
+    while 0 < j {
+        if x.ikeys[j - 1] <= ikey {
+            return j;
+        }
+        j -= 1;
+    }
+    0
+}
+
+// A full internode with one key more, in two.
+pub fn split_internode(
+    nodes: &mut [u64],
+    count: usize,
+    k: usize,
+    p: usize,
+    ikey: u64,
+    child: u64,
+) -> Grown
+    requires { ⌜ (nodeStart count ≡ length (now nodes)) × (k < count) × (count ≤ 255) × (countAt (now nodes) k ≡ 15) × (p ≤ 15) ⌝ }
+    ensures { λ r. ⌜ (now (nodes .exit), r) ≡ internodeSplit (now (nodes .entry)) count k p ikey child ⌝ }
+{
+    let x = load(nodes, k);
+    let halves = internode::inside::split_insert(x, p, ikey, child);
+    let right = lowest(nodes, count);
+    let below = halves.left;
+    let above = halves.right;
+    store(nodes, k, below);
+    store(nodes, right, above);
+    Grown::Two {
+        ikey: halves.up,
+        node: right as u64,
+    }
+}
+
+// A child more in an internode, in two if it is full.
+pub fn grow_internode(nodes: &mut [u64], count: usize, k: usize, ikey: u64, child: u64) -> Grown
+    requires { ⌜ (nodeStart count ≡ length (now nodes)) × (k < count) × (count ≤ 255) ⌝ }
+    ensures { λ r. ⌜ (now (nodes .exit), r) ≡ internodeGrown (now (nodes .entry)) count k ikey child ⌝ }
+{
+    let x = load(nodes, k);
+    if 15 < x.n {
+        return Grown::One;
+    }
+    let p = place_of(x, ikey);
+    if x.n < 15 {
+        store(nodes, k, internode::inside::insert(x, p, ikey, child));
+        return Grown::One;
+    }
+    split_internode(nodes, count, k, p, ikey, child)
+}
+
+// An internode over two nodes.
+pub fn over_two(left: u64, ikey: u64, right: u64) -> Internode
+    ensures { λ r. ⌜ r ≡ overTwo left ikey right ⌝ }
+{
+    let mut ikeys = [0u64; 15];
+    let mut children = [0u64; 16];
+    ikeys[0] = ikey;
+    children[0] = left;
+    children[1] = right;
+    Internode {
+        n: 1,
+        ikeys,
+        children,
+    }
+}

@@ -1,0 +1,211 @@
+// Layers of lent memory with an entry more, where nodes enough are free. What a caller must know stands in `requires`; what only a
+// tree has is not required.
+ghost use mathlib.Core.Path.{_≡_};
+ghost use mathlib.Core.List.{[], _∷_};
+ghost use Prim.Native.Nat.{_+_, _-_, _≤_};
+ghost use lib.ListN.{length, take};
+ghost use Rattle.arena.specs.Layout.{nodeStart, putLeaf};
+ghost use Rattle.model.specs.Leaves.{leafWith};
+ghost use Rattle.model.specs.Needed.{splitToo, needIn, bothGoOn, layersOf};
+ghost use Rattle.model.specs.Grow.{nodeGrown, layerGrown, entryFor, inOrder, linkFor, bothPut, layersGrown};
+use leaf::Entry;
+use model::Grown;
+use seek::inside::word_of;
+
+// ---- what is needed
+
+// How many nodes an entry more takes in a layer: each full node from the leaf upward, and one for a new root.
+pub fn need(nodes: &[u64], height: usize, root: u64, ikey: u64) -> usize
+    requires { ⌜ (length (now nodes) ≤ 11987) × (height ≤ 255) ⌝ }
+    ensures { λ r. ⌜ r ≡ needIn (now (nodes .entry)) height root ikey 1 ⌝ }
+{
+    let mut n = root;
+    let mut h = height;
+    let mut taken: usize = 1;
+    while 0 < h {
+        taken = split_too(word_of(nodes, n, 1), taken);
+        n = seek::inside::child_for(nodes, n, ikey);
+        h -= 1;
+    }
+    split_too(word_of(nodes, n, 1) % 16, taken)
+}
+
+fn split_too(size: u64, taken: usize) -> usize
+    requires { ⌜ taken ≤ 1000 ⌝ }
+    ensures { λ r. ⌜ r ≡ splitToo size taken ⌝ }
+{
+    if size < 15 {
+        return 0;
+    }
+    taken + 1
+}
+
+// How many layers a conflict makes, from a layer on.
+pub fn layers(key: &[u8], other: &[u8], links: usize) -> usize
+    requires { ⌜ links ≤ 32 ⌝ }
+    ensures { λ r. ⌜ r ≡ layersOf (31 - links) (now (key .entry)) (now (other .entry)) links ⌝ }
+{
+    let mut made: usize = 1;
+    let mut at = links;
+    while at < 31 {
+        if !both_go_on(key, other, at) {
+            return made;
+        }
+        made += 1;
+        at += 1;
+    }
+    made
+}
+
+// Both keys have the same ikey at a layer, and are longer.
+pub fn both_go_on(key: &[u8], other: &[u8], links: usize) -> bool
+    requires { ⌜ links ≤ 32 ⌝ }
+    ensures { λ r. ⌜ r ≡ bothGoOn (now (key .entry)) (now (other .entry)) links ⌝ }
+{
+    if key.len() <= 8 * links + 8 {
+        return false;
+    }
+    if other.len() <= 8 * links + 8 {
+        return false;
+    }
+    ikey::read_ikey(key, 8 * links) == ikey::read_ikey(other, 8 * links)
+}
+
+// ---- an entry more
+
+// Below a node of this height.
+pub fn grow_node(nodes: &mut [u64], count: usize, height: usize, n: u64, e: Entry) -> Grown
+    requires { ⌜ (nodeStart count ≡ length (now nodes)) × (1 ≤ count) × (count ≤ 255) ⌝ }
+    ensures { λ r. ⌜ (now (nodes .exit), r) ≡ nodeGrown (now (nodes .entry)) count height n e ⌝ }
+{
+    if count as u64 <= n {
+        return Grown::One;
+    }
+    let k = n as usize;
+    if height == 0 {
+        return edit::inside::grow_leaf(nodes, count, k, e);
+    }
+    let child = seek::inside::child_for(nodes, n, e.ikey);
+    let grown = grow_node(nodes, count, height - 1, child, e);
+    if let Grown::Two { ikey, node } = grown {
+        return edit::inside::grow_internode(nodes, count, k, ikey, node);
+    }
+    Grown::One
+}
+
+// In the layer whose root's number stands in the word `holder`.
+pub fn grow_layer(nodes: &mut [u64], count: usize, holder: usize, root: u64, e: Entry)
+    requires { ⌜ (nodeStart count ≡ length (now nodes)) × (1 ≤ count) × (count ≤ 255) ⌝ }
+    ensures { λ _. ⌜ now (nodes .exit) ≡ layerGrown (now (nodes .entry)) count holder root e ⌝ }
+{
+    let height = shape::inside::height(nodes, count, root);
+    let grown = grow_node(nodes, count, height, root, e);
+    let Grown::Two { ikey, node } = grown else {
+        return;
+    };
+    let top = edit::inside::lowest(nodes, count);
+    edit::inside::store(nodes, top, edit::inside::over_two(root, ikey, node));
+    edit::inside::put_at(nodes, holder, top as u64);
+}
+
+// ---- a conflict
+
+// The entry of a key with its cell, at a layer.
+pub fn entry_for(key: &[u8], cell: u64, links: usize) -> Entry
+    requires { ⌜ links ≤ 32 ⌝ }
+    ensures { λ r. ⌜ r ≡ entryFor (now (key .entry)) cell links ⌝ }
+{
+    let left = shape::inside::left_behind(key.len(), 8 * links);
+    let ikey = ikey::read_ikey(key, 8 * links);
+    let class = shape::inside::class_of(left);
+    Entry {
+        ikey,
+        class,
+        at: cell,
+    }
+}
+
+// Two entries in order, in the first two places.
+fn two_of(a: Entry, b: Entry) -> [Entry; 16]
+    ensures { λ r. ⌜ take 2 r ≡ inOrder a b ⌝ }
+{
+    let mut all = [a; 16];
+    if leaf::inside::is_less(a, b) {
+        all[1] = b;
+        return all;
+    }
+    all[0] = b;
+    all
+}
+
+// A leaf with one link, whose number follows.
+fn put_link(nodes: &mut [u64], k: usize, key: &[u8], links: usize)
+    requires { ⌜ (nodeStart k + 47 ≤ length (now nodes)) × (links ≤ 32) ⌝ }
+    ensures { λ _. ⌜ now (nodes .exit) ≡ putLeaf (now (nodes .entry)) k (leafWith (linkFor (now (key .entry)) links ∷ [])) ⌝ }
+{
+    let link = Entry {
+        ikey: ikey::read_ikey(key, 8 * links),
+        class: 10,
+        at: 0,
+    };
+    let leaf = edit::inside::leaf_of([link; 16], 0, 1);
+    arena::inside::store_leaf(nodes, k, leaf);
+}
+
+// A leaf with two keys.
+fn put_both(
+    nodes: &mut [u64],
+    k: usize,
+    key: &[u8],
+    cell: u64,
+    other: &[u8],
+    other_cell: u64,
+    links: usize,
+)
+    requires { ⌜ (nodeStart k + 47 ≤ length (now nodes)) × (links ≤ 32) ⌝ }
+    ensures { λ _. ⌜ now (nodes .exit) ≡ bothPut (now (nodes .entry)) k (record { key = now (key .entry); cell = cell }) (record { key = now (other .entry); cell = «other_cell» }) links ⌝ }
+{
+    let two = two_of(
+        entry_for(key, cell, links),
+        entry_for(other, other_cell, links),
+    );
+    let leaf = edit::inside::leaf_of(two, 0, 2);
+    arena::inside::store_leaf(nodes, k, leaf);
+}
+
+// The layers of a conflict, from a layer on: the number of the first goes into the word `holder`.
+pub fn grow_layers(
+    nodes: &mut [u64],
+    count: usize,
+    holder: usize,
+    key: &[u8],
+    cell: u64,
+    other: &[u8],
+    other_cell: u64,
+    links: usize,
+)
+    requires { ⌜ (nodeStart count ≡ length (now nodes)) × (1 ≤ count) × (count ≤ 255) × (links ≤ 32) ⌝ }
+    ensures { λ _. ⌜ now (nodes .exit) ≡ layersGrown (31 - links) (now (nodes .entry)) count holder (record { key = now (key .entry); cell = cell }) (record { key = now (other .entry); cell = «other_cell» }) links ⌝ }
+{
+    let k = edit::inside::lowest(nodes, count);
+    edit::inside::put_at(nodes, holder, k as u64);
+    if 31 <= links {
+        put_both(nodes, k, key, cell, other, other_cell, links);
+        return;
+    }
+    if !both_go_on(key, other, links) {
+        put_both(nodes, k, key, cell, other, other_cell, links);
+        return;
+    }
+    put_link(nodes, k, key, links);
+    grow_layers(
+        nodes,
+        count,
+        2 + k * 47 + 32,
+        key,
+        cell,
+        other,
+        other_cell,
+        links + 1,
+    );
+}

@@ -1,0 +1,5 @@
+pub mod Lent
+pub mod Cells
+pub mod Answering
+pub mod Putting
+pub mod One

@@ -1,0 +1,33 @@
+-- What a put counts and writes at the place that a key has met.
+use Prim.Native.Nat.{ℕ, _≤_}
+use mathlib.Core.Bool.{Bool, _&&_}
+use mathlib.Core.List.{List}
+use lib.Dec.{leb}
+use lib.ListN.{length}
+use Rattle.arena.specs.Layout.{putCell, putKey}
+use Rattle.arena.specs.Free.{freeNodes, freeCells}
+use Rattle.arena.specs.Memory.{Memory, memory, nodeCount, cellCount}
+use Rattle.model.specs.declared.Met.{Met}
+use Rattle.model.specs.Calls.{nodesOf, cellsOf, neededAt, freshCell, nodesWith}
+use Rattle.seek.specs.Lengths.{NodesLent, CellsLent}
+use Rattle.seek.specs.Within.{Within}
+
+-- a cell is free, and nodes enough for a key at this place
+abbrev pub roomAt : Memory → List ℕ → Met → Bool
+roomAt m key met =
+    leb 1 (length (freeCells (m .cells) (cellsOf m))) && leb (neededAt m key met) (length (freeNodes (m .nodes) (nodesOf m)))
+
+-- memory with a new key at this place, and its frame number
+abbrev pub withAt : Memory → List ℕ → ℕ → Met → Memory
+withAt m key frame met =
+    memory (nodesWith m key (freshCell m) met)
+    (putCell (m .cells) (freshCell m) (length key) frame)
+    (putKey (m .bytes) (freshCell m) key)
+
+-- right lent lengths, with a node and a cell at least, and a place within them
+pub record Lent (nodes cells bytes : List ℕ) (met : Met) : Type 0 where
+  pub nodes-lent : NodesLent (length nodes)
+  pub cells-lent : CellsLent (length cells) (length bytes)
+  pub one-node : 1 ≤ nodeCount (length nodes)
+  pub one-cell : 1 ≤ cellCount (length cells)
+  pub place-within : Within (nodeCount (length nodes)) (cellCount (length cells)) met

@@ -1,0 +1,128 @@
+// The label index in lent memory: clear, put, find, remove, and the k-th entry in key order. Every call but clear judges the whole of
+// lent memory first; a refused call leaves every word and byte as it was.
+mod write;
+
+ghost use mathlib.Core.Path.{_≡_};
+ghost use Rattle.arena.specs.Memory.{memory, did, cleared, saidCleared};
+ghost use Rattle.model.specs.Calls.{findSaid, kthSaid, removed, putDone};
+ghost use Rattle.index.specs.Answers.{saidAdded, saidRemoved, saidFound, saidListed};
+use arena::Cleared;
+use model::Met;
+use model::Reached;
+use refusal::Refusal;
+
+// The most bytes that a key has.
+const LONGEST: usize = 256;
+
+pub enum Added {
+    Done,
+    Refused(Refusal),
+}
+
+pub enum Removed {
+    Done,
+    Refused(Refusal),
+}
+
+// The frame number of a key.
+pub enum Found {
+    Frame(u64),
+    Refused(Refusal),
+}
+
+// The k-th entry: its cell, the length of its key, its frame number. The key's bytes are the caller's own, in that cell.
+pub enum Listed {
+    Entry { cell: u64, length: u64, frame: u64 },
+    Refused(Refusal),
+}
+
+// Leaves node 0, an empty leaf, as root, and everything else zero.
+pub fn clear(nodes: &mut [u64], cells: &mut [u64], bytes: &mut [u8]) -> Cleared
+    ensures { λ r. ⌜ did (saidCleared r) (memory (now (nodes .exit)) (now (cells .exit)) (now (bytes .exit))) ≡ cleared (memory (now (nodes .entry)) (now (cells .entry)) (now (bytes .entry))) ⌝ }
+{
+    arena::clear(nodes, cells, bytes)
+}
+
+// The frame number stored with a key.
+pub fn find(nodes: &[u64], cells: &[u64], bytes: &[u8], key: &[u8]) -> Found
+    ensures { λ r. ⌜ saidFound r ≡ findSaid (memory (now (nodes .entry)) (now (cells .entry)) (now (bytes .entry))) (now (key .entry)) ⌝ }
+{
+    if LONGEST < key.len() {
+        return Found::Refused(Refusal::Key);
+    }
+    if !audit::is_tree(nodes, cells, bytes) {
+        return Found::Refused(Refusal::Memory);
+    }
+    let met = seek::inside::seek(nodes, cells, bytes, key, 0, 0, nodes[0]);
+    if let Met::Stored {
+        leaf: _,
+        position: _,
+        cell,
+    } = met {
+        let frame = arena::inside::frame(cells, cell as usize);
+        return Found::Frame(frame);
+    }
+    Found::Refused(Refusal::Missing)
+}
+
+// The k-th entry in key order.
+pub fn kth(nodes: &[u64], cells: &[u64], bytes: &[u8], k: u64) -> Listed
+    ensures { λ r. ⌜ saidListed r ≡ kthSaid (memory (now (nodes .entry)) (now (cells .entry)) (now (bytes .entry))) k ⌝ }
+{
+    if !audit::is_tree(nodes, cells, bytes) {
+        return Listed::Refused(Refusal::Memory);
+    }
+    let reached = seek::inside::kth_layer(nodes, 0, nodes[0], k);
+    if let Reached::Here(cell) = reached {
+        return write::entry_at(cells, cell);
+    }
+    Listed::Refused(Refusal::Missing)
+}
+
+// A key less.
+pub fn remove(nodes: &mut [u64], cells: &mut [u64], bytes: &mut [u8], key: &[u8]) -> Removed
+    ensures { λ r. ⌜ did (saidRemoved r) (memory (now (nodes .exit)) (now (cells .exit)) (now (bytes .exit))) ≡ removed (memory (now (nodes .entry)) (now (cells .entry)) (now (bytes .entry))) (now (key .entry)) ⌝ }
+{
+    if LONGEST < key.len() {
+        return Removed::Refused(Refusal::Key);
+    }
+    if !audit::is_tree(nodes, cells, bytes) {
+        return Removed::Refused(Refusal::Memory);
+    }
+    let met = seek::inside::seek(nodes, cells, bytes, key, 0, 0, nodes[0]);
+    if let Met::Stored {
+        leaf,
+        position,
+        cell,
+    } = met {
+        edit::inside::take_entry(nodes, leaf as usize, position);
+        arena::inside::free_cell(cells, bytes, cell as usize);
+        return Removed::Done;
+    }
+    Removed::Refused(Refusal::Missing)
+}
+
+// A new key with its frame number.
+pub fn put(nodes: &mut [u64], cells: &mut [u64], bytes: &mut [u8], key: &[u8], frame: u64) -> Added
+    ensures { λ r. ⌜ did (saidAdded r) (memory (now (nodes .exit)) (now (cells .exit)) (now (bytes .exit))) ≡ putDone (memory (now (nodes .entry)) (now (cells .entry)) (now (bytes .entry))) (now (key .entry)) frame ⌝ }
+{
+    if LONGEST < key.len() {
+        return Added::Refused(Refusal::Key);
+    }
+    if !audit::is_tree(nodes, cells, bytes) {
+        return Added::Refused(Refusal::Memory);
+    }
+    let met = seek::inside::seek(nodes, cells, bytes, key, 0, 0, nodes[0]);
+    if let Met::Stored {
+        leaf: _,
+        position: _,
+        cell: _,
+    } = met {
+        return Added::Refused(Refusal::Stored);
+    }
+    if !write::has_room(nodes, cells, bytes, key, met) {
+        return Added::Refused(Refusal::Room);
+    }
+    write::put_new(nodes, cells, bytes, key, frame, met);
+    Added::Done
+}

@@ -1,0 +1,142 @@
+-- What each call of the index answers, and what it leaves in lent memory.
+use Prim.Native.Nat.{ℕ, suc, _+_, _-_}
+use mathlib.Core.Bool.{Bool, true, false, not, _&&_}
+use mathlib.Core.List.{List, [], _∷_}
+use lib.Dec.{leb, ltb, eqb}
+use lib.ListN.{length, getD, set}
+use Rattle.refusal.specs.Answer.{Answer, Rule, _unless_, answered}
+use Rattle.arena.specs.Layout.{nodeStart, rootOf, markAt, frameAt, keyAt, putCell, putKey, freedCell, freedKey}
+use Rattle.arena.specs.Free.{freeNodes, freeCells}
+use Rattle.arena.specs.Memory.{Memory, memory, nodeCount, cellCount, Did, did}
+use Rattle.bank.specs.Bank.{slotAt}
+use Rattle.order.specs.Layer.{ikeyAt}
+use Rattle.forest.specs.Nodes.{slotsAt}
+use Rattle.forest.specs.Trees.{choose}
+use Rattle.forest.specs.Walk.{heightAt, isTree}
+use Rattle.model.specs.declared.Met.{Met}
+use Rattle.model.specs.declared.Met.the-variants.{Stored, Conflict, Missing}
+use Rattle.model.specs.Meet.{meet, numberWord}
+use Rattle.model.specs.Listed.{cellsOfLayer}
+use Rattle.model.specs.Leaves.{entryTaken}
+use Rattle.model.specs.Needed.{needIn, layersOf}
+use Rattle.model.specs.Grow.{Label, entryFor, layerGrown, layersGrown}
+
+-- how many nodes and cells are lent
+abbrev pub nodesOf : Memory → ℕ
+nodesOf m = nodeCount (length (m .nodes))
+
+abbrev pub cellsOf : Memory → ℕ
+cellsOf m = cellCount (length (m .cells))
+
+-- where the key is, from the root down
+abbrev pub place : Memory → List ℕ → Met
+place m key = meet 31 m key 0 0 (rootOf (m .nodes))
+
+abbrev pub isStored : Met → Bool
+isStored (Stored leaf position cell) = true
+isStored (Conflict leaf position cell links) = false
+isStored (Missing holder root links) = false
+
+-- the key is stored
+abbrev pub stored : Memory → List ℕ → Bool
+stored m key = isStored (place m key)
+
+-- refusals 7 and 10, of every call with a key
+abbrev pub keyRules : Memory → List ℕ → List Rule → List Rule
+keyRules m key rules = (7 unless leb (length key) 256) ∷ (10 unless isTree m) ∷ rules
+
+-- ---- find
+
+-- the frame numbers of a place: that of its cell, where the key is stored
+abbrev pub frameOf : Memory → Met → List ℕ
+frameOf m (Stored leaf position cell) = frameAt (m .cells) cell ∷ []
+frameOf m (Conflict leaf position cell links) = []
+frameOf m (Missing holder root links) = []
+
+-- find: 12 unless the key is stored; its frame number
+unfoldable pub findSaid : Memory → List ℕ → Answer
+findSaid m key = answered (keyRules m key ((12 unless stored m key) ∷ [])) (frameOf m (place m key)) []
+
+-- ---- k-th
+
+-- the cells, in key order
+abbrev pub inKeyOrder : Memory → List ℕ
+inKeyOrder m = cellsOfLayer 31 (m .nodes) (rootOf (m .nodes))
+
+-- a cell, the length of its key, and its frame number
+abbrev pub entryOf : Memory → ℕ → List ℕ
+entryOf m c = c ∷ (markAt (m .cells) c - 1) ∷ frameAt (m .cells) c ∷ []
+
+-- k-th: 12 unless k is below the number stored
+unfoldable pub kthSaid : Memory → ℕ → Answer
+kthSaid m k =
+    answered ((10 unless isTree m) ∷ (12 unless ltb k (length (inKeyOrder m))) ∷ []) (entryOf m (getD (inKeyOrder m) k 0)) []
+
+-- ---- remove
+
+-- memory without the entry at a place, and its cell free
+abbrev pub without : Memory → Met → Memory
+without m (Stored leaf position cell) =
+    memory (entryTaken (m .nodes) leaf position) (freedCell (m .cells) cell) (freedKey (m .bytes) cell)
+without m (Conflict leaf position cell links) = m
+without m (Missing holder root links) = m
+
+abbrev pub whenAccepted : Answer → Memory → Memory → Memory
+whenAccepted a after before = choose (eqb (a .number) 0) after before
+
+-- remove: 12 unless the key is stored
+abbrev pub removeSaid : Memory → List ℕ → Answer
+removeSaid m key = answered (keyRules m key ((12 unless stored m key) ∷ [])) [] []
+
+unfoldable pub removed : Memory → List ℕ → Did
+removed m key = did (removeSaid m key) (whenAccepted (removeSaid m key) (without m (place m key)) m)
+
+-- ---- put
+
+-- the nodes that a put needs at a place
+abbrev pub neededAt : Memory → List ℕ → Met → ℕ
+neededAt m key (Stored leaf position cell) = 0
+neededAt m key (Conflict leaf position cell links) =
+    layersOf (31 - suc links) key (keyAt (m .cells) (m .bytes) cell) (suc links)
+neededAt m key (Missing holder root links) =
+    needIn (m .nodes) (heightAt (m .nodes) 255 root) root (entryFor key 0 links .ikey) 1
+
+abbrev pub needed : Memory → List ℕ → ℕ
+needed m key = neededAt m key (place m key)
+
+-- nodes and cells enough are free
+abbrev pub hasRoom : Memory → List ℕ → Bool
+hasRoom m key =
+    leb 1 (length (freeCells (m .cells) (cellsOf m))) && leb (needed m key) (length (freeNodes (m .nodes) (nodesOf m)))
+
+-- the lowest free cell
+abbrev pub freshCell : Memory → ℕ
+freshCell m = getD (freeCells (m .cells) (cellsOf m)) 0 0
+
+-- the nodes with the key's entry at a place: a conflict turns the entry there into a link
+abbrev pub nodesWith : Memory → List ℕ → ℕ → Met → List ℕ
+nodesWith m key c (Stored leaf position cell) = m .nodes
+nodesWith m key c (Conflict leaf position cell links) =
+    layersGrown (31 - suc links)
+    (set (m .nodes) (nodeStart leaf + 17 + slotAt position (slotsAt (m .nodes) leaf)) 10)
+    (nodesOf m)
+    (numberWord (m .nodes) leaf position)
+    (record { key = key; cell = c })
+    (record { key = keyAt (m .cells) (m .bytes) cell; cell = cell })
+    (suc links)
+nodesWith m key c (Missing holder root links) =
+    layerGrown (m .nodes) (nodesOf m) holder root (entryFor key c links)
+
+-- memory with a new key and its frame number
+abbrev pub with : Memory → List ℕ → ℕ → Memory
+with m key frame =
+    memory (nodesWith m key (freshCell m) (place m key))
+    (putCell (m .cells) (freshCell m) (length key) frame)
+    (putKey (m .bytes) (freshCell m) key)
+
+-- put: 11 if the key is stored, 13 unless nodes and cells enough are free
+abbrev pub putSaid : Memory → List ℕ → Answer
+putSaid m key = answered (keyRules m key ((11 unless not (stored m key)) ∷ (13 unless hasRoom m key) ∷ [])) [] []
+
+unfoldable pub putDone : Memory → List ℕ → ℕ → Did
+putDone m key frame = did (putSaid m key) (whenAccepted (putSaid m key) (with m key frame) m)

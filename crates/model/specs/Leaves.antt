@@ -1,0 +1,75 @@
+-- A leaf of lent memory with an entry less, or with an entry more: in one node, or in two.
+use Prim.Native.Nat.{ℕ, _+_, _-_}
+use mathlib.Core.Bool.{Bool}
+use mathlib.Core.List.{List, [], _∷_, _++_, map}
+use lib.Dec.{eqb}
+use lib.ListN.{length, getD, set, take, drop}
+use Rattle.refusal.specs.Answer.{Answer}
+use Rattle.bank.specs.Bank.{slotAt}
+use Rattle.bank.specs.Calls.{Change, insertFromBack, remove}
+use Rattle.permuter.specs.Words.{changed, madeSorted}
+use Rattle.leaf.specs.declared.Entry.{Entry}
+use Rattle.leaf.specs.Leaf.{none, rank}
+use Rattle.leaf.specs.Search.{placeGreater}
+use Rattle.leaf.specs.Cut.{ikeyOf, cutOf}
+use Rattle.arena.specs.declared.inside.Leaf.{Leaf}
+use Rattle.arena.specs.Parts.{zeros}
+use Rattle.arena.specs.Layout.{nodeStart, wordAt, putLeaf}
+use Rattle.arena.specs.Free.{freeNodes}
+use Rattle.forest.specs.Nodes.{entryAt, entriesAt, slotsAt}
+use Rattle.forest.specs.Trees.{choose}
+use Rattle.model.specs.declared.Grown.{Grown}
+use Rattle.model.specs.declared.Grown.the-variants.{One, Two}
+
+-- the lowest free node
+abbrev pub freshNode : List ℕ → ℕ → ℕ
+freshNode nodes count = getD (freeNodes nodes count) 0 0
+
+-- what a call on the slot word of leaf k answers
+abbrev pub slotCall : List ℕ → ℕ → Change → Answer
+slotCall nodes k c = changed 15 (wordAt nodes k 1) c
+
+-- the word that it hands back becomes the leaf's
+abbrev pub wordPut : List ℕ → ℕ → Answer → List ℕ
+wordPut nodes k a = set nodes (nodeStart k + 1) (getD (a .values) 0 0)
+
+-- the three numbers of an entry in a slot of node k
+unfoldable pub entryPut : List ℕ → ℕ → ℕ → Entry → List ℕ
+entryPut nodes k slot e =
+    set (set (set nodes (nodeStart k + 2 + slot) (e .ikey)) (nodeStart k + 17 + slot) (e .class)) (nodeStart k + 32 + slot) (e .at)
+
+-- an entry less: `remove` at its position, and its slot is zeroed
+unfoldable pub entryTaken : List ℕ → ℕ → ℕ → List ℕ
+entryTaken nodes k p = entryPut (wordPut nodes k (slotCall nodes k (remove p))) k (slotAt p (slotsAt nodes k)) none
+
+-- a leaf with these entries in slots 0, 1, .., its word by `make_sorted`; places not in use are zero
+unfoldable pub leafWith : List Entry → Leaf
+leafWith es =
+    record {
+      word = getD (madeSorted 15 (length es) .values) 0 0;
+      ikeys = map (λ e. e .ikey) es ++ zeros (15 - length es);
+      classes = map (λ e. e .class) es ++ zeros (15 - length es);
+      refs = map (λ e. e .at) es ++ zeros (15 - length es);
+    }
+
+-- the entries at all fifteen positions
+unfoldable pub fifteenAt : List ℕ → ℕ → List Entry
+fifteenAt nodes k = map (entryAt nodes k) (slotsAt nodes k .slots)
+
+-- sixteen entries in two leaves: the left half keeps its number, the right half takes the lowest free one
+unfoldable pub leafSplit : List ℕ → ℕ → ℕ → List Entry → List ℕ × Grown
+leafSplit nodes count k es = (
+  putLeaf (putLeaf nodes k (leafWith (take (cutOf es) es))) (freshNode nodes count) (leafWith (drop (cutOf es) es)),
+  Two (ikeyOf es (cutOf es)) (freshNode nodes count),
+)
+
+-- an entry more at a position: by `insert_from_back` where the leaf has room
+unfoldable pub entryAdded : List ℕ → ℕ → ℕ → ℕ → Entry → List ℕ × Grown
+entryAdded nodes count k p e =
+    choose (eqb (slotCall nodes k (insertFromBack p) .number) 0)
+    (entryPut (wordPut nodes k (slotCall nodes k (insertFromBack p))) k (getD (slotCall nodes k (insertFromBack p) .values) 1 0) e, One)
+    (leafSplit nodes count k (take p (fifteenAt nodes k) ++ e ∷ drop p (fifteenAt nodes k)))
+
+-- an entry more, where it belongs
+unfoldable pub leafGrown : List ℕ → ℕ → ℕ → Entry → List ℕ × Grown
+leafGrown nodes count k e = entryAdded nodes count k (placeGreater (e .ikey) (rank e) (entriesAt nodes k)) e

@@ -1,0 +1,149 @@
+// One recorded call on the index, at fixed places of a line of 570 bytes: the call, its number, a frame number, another number, the sum of
+// the memory after it, the length of a key and the key. tests/calls.py makes such lines and says which is which.
+ghost use Prim.Native.Nat.{_≤_};
+use crate::hex;
+use crate::sum;
+use arena::Cleared;
+use index::Added;
+use index::Found;
+use index::Listed;
+use index::Removed;
+
+pub(crate) fn call(text: &[u8]) -> u8 {
+    if text.len() == 0 {
+        return 0;
+    }
+    text[0]
+}
+
+fn number(text: &[u8]) -> u64 {
+    hex::two(text, 1)
+}
+
+fn frame(text: &[u8]) -> u64 {
+    hex::sixteen(text, 3)
+}
+
+// How many nodes, and how many cells, a new memory has.
+pub(crate) fn nodes_of(text: &[u8]) -> usize {
+    hex::four(text, 23) as usize
+}
+
+pub(crate) fn cells_of(text: &[u8]) -> usize {
+    hex::four(text, 31) as usize
+}
+
+// The key's length, at most 257.
+fn length(text: &[u8]) -> usize
+    ensures { λ r. ⌜ r ≤ 257 ⌝ }
+{
+    let n = hex::four(text, 51) as usize;
+    if 257 < n {
+        return 257;
+    }
+    n
+}
+
+fn key_of(text: &[u8]) -> [u8; 257] {
+    let mut key = [0u8; 257];
+    let mut i: usize = 0;
+    while i < 257 {
+        key[i] = hex::byte(text, 55 + 2 * i);
+        i += 1;
+    }
+    key
+}
+
+// The call says what the line has, and the memory after it has the line's sum.
+pub(crate) fn agrees(nodes: &mut [u64], cells: &mut [u64], bytes: &mut [u8], text: &[u8]) -> bool {
+    let space = key_of(text);
+    let n = length(text);
+    let key = &space[0..n];
+    if !says(nodes, cells, bytes, key, text) {
+        return false;
+    }
+    sum::of(nodes, cells, bytes) == hex::sixteen(text, 35)
+}
+
+fn says(nodes: &mut [u64], cells: &mut [u64], bytes: &mut [u8], key: &[u8], text: &[u8]) -> bool {
+    let which = call(text);
+    if which == b'c' {
+        return cleared_number(index::clear(nodes, cells, bytes)) == number(text);
+    }
+    if which == b'p' {
+        return put_number(index::put(nodes, cells, bytes, key, frame(text))) == number(text);
+    }
+    if which == b'd' {
+        return removed_number(index::remove(nodes, cells, bytes, key)) == number(text);
+    }
+    if which == b'f' {
+        return found(index::find(nodes, cells, bytes, key), text);
+    }
+    reached(
+        bytes,
+        index::kth(nodes, cells, bytes, hex::sixteen(text, 19)),
+        key,
+        text,
+    )
+}
+
+fn cleared_number(answer: Cleared) -> u64 {
+    match answer {
+        Cleared::Done => 0,
+        Cleared::Refused(why) => refusal::number(why),
+    }
+}
+
+fn put_number(answer: Added) -> u64 {
+    match answer {
+        Added::Done => 0,
+        Added::Refused(why) => refusal::number(why),
+    }
+}
+
+fn removed_number(answer: Removed) -> u64 {
+    match answer {
+        Removed::Done => 0,
+        Removed::Refused(why) => refusal::number(why),
+    }
+}
+
+fn found(answer: Found, text: &[u8]) -> bool {
+    match answer {
+        Found::Frame(x) => number(text) == 0 && x == frame(text),
+        Found::Refused(why) => refusal::number(why) == number(text),
+    }
+}
+
+fn reached(bytes: &[u8], answer: Listed, key: &[u8], text: &[u8]) -> bool {
+    match answer {
+        Listed::Entry {
+            cell,
+            length,
+            frame: x,
+        } => number(text) == 0 && x == frame(text) && stands(bytes, cell, length, key),
+        Listed::Refused(why) => refusal::number(why) == number(text),
+    }
+}
+
+// The key stands in a cell, and has this length.
+fn stands(bytes: &[u8], cell: u64, length: u64, key: &[u8]) -> bool {
+    if length != key.len() as u64 {
+        return false;
+    }
+    if 255 <= cell {
+        return false;
+    }
+    let from = cell as usize * 256;
+    let mut i: usize = 0;
+    while i < key.len() {
+        if bytes.len() <= from + i {
+            return false;
+        }
+        if bytes[from + i] != key[i] {
+            return false;
+        }
+        i += 1;
+    }
+    true
+}

@@ -1,0 +1,5 @@
+pub mod Lengths
+pub mod Words
+pub mod Down
+pub mod Seeks
+pub mod Reaches

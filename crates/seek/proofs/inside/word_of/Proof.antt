@@ -1,0 +1,18 @@
+-- `seek::inside::word_of` meets its contract. Assumes nothing.
+use borrow.Author.Needs.{needs}
+use Rattle.seek.proofs.Words.{words}
+use Rattle.seek.proofs.inside.word_of.Statement.{statement}
+use Rattle.seek.proofs.inside.word_of.Tie as tie
+
+pub word-of-spec : {M : Type 1} → statement M
+word-of-spec =
+    tie.close
+    (tie.spec
+    (λ c. search words)
+    (λ c. search needs)
+    (λ c. search needs)
+    (λ c. search needs)
+    (λ c. search words)
+    (λ c. search needs)
+    (λ c. search needs)
+    (λ c. search needs))
