@@ -4,13 +4,16 @@
 -- That every call ends on any input needs no statement here: each function is proved to end, and no public function requires
 -- anything. Below, each kind of call is listed with its rules, as in document 01's table: `4 unless leb n w` gives 4 unless
 -- n ≤ W. `AsRuled rules values back answer` says: where no rule applies the answer is accepted with the values; else its number
--- is the lowest that applies, and what was given comes back.
-use Prim.Native.Nat.{ℕ, _*_, compare}
-use mathlib.Core.Bool.{Bool, _&&_}
+-- is the lowest that applies, and what was given comes back. `KeepsMemory` adds, for calls on lent memory, that a refused call leaves
+-- every word and byte as it was.
+use Prim.Native.Nat.{ℕ, _*_, _<_, compare}
+use mathlib.Core.Path.{_≡_, refl}
+use mathlib.Core.Bool.{Bool, true, false, not, _&&_}
 use mathlib.Core.List.{List, [], _∷_}
-use lib.Dec.{T, leb, ltb}
+use lib.Dec.{T, leb, ltb, eqb, eqb→eq}
 use lib.ListN.{length, getD}
-use Rattle.refusal.specs.Answer.{Rule, _unless_}
+use native.Mathlib.Omega.{arith}
+use Rattle.refusal.specs.Answer.{Answer, Rule, accepted, _unless_}
 use Rattle.refusal.specs.Exactly.{listedAbove, AsRuled}
 use Rattle.refusal.proofs.Exactly.{as-ruled}
 use Rattle.bank.specs.Bank.{sorted}
@@ -48,6 +51,11 @@ use Rattle.internode.specs.Node.{keysOf, good, insertPosition, childFor, insert
 use Rattle.internode.specs.Calls.{findSaid, compareSaid, childSaid, insertSaid}
 use Rattle.leaf.specs.declared.Entry.{Entry}
 use Rattle.leaf.specs.Search.{searchRules, outcome, searchSaid}
+use Rattle.arena.specs.Memory.{Memory, nodeCount, cellCount, rightLengths, measured, emptied, Did, did, pickDid, cleared}
+use Rattle.forest.specs.Trees.{choose}
+use Rattle.forest.specs.Walk.{isTree}
+use Rattle.audit.specs.Audit.{audited}
+use Rattle.model.specs.Calls as index
 
 -- ---- slot words
 
@@ -160,3 +168,87 @@ unfolding searchSaid listedAbove
 leaf-searches word entries cells bytes key ikey shifts start =
     as-ruled (searchRules word entries cells bytes key ikey shifts start)
     (outcome word entries cells bytes key ikey (classAt key (8 * shifts)) start) (word ∷ []) 0 tt
+
+-- ---- lent memory
+
+-- The lent lengths, and the audit: 10.
+pub lent-lengths : (nodes cells bytes : ℕ)
+    → AsRuled ((10 unless rightLengths nodes cells bytes) ∷ []) (nodeCount nodes ∷ cellCount cells ∷ []) [] (measured nodes cells bytes)
+unfolding measured listedAbove
+lent-lengths nodes cells bytes =
+    as-ruled ((10 unless rightLengths nodes cells bytes) ∷ []) (nodeCount nodes ∷ cellCount cells ∷ []) [] 0 tt
+
+pub audits : (m : Memory) → AsRuled ((10 unless isTree m) ∷ []) [] [] (audited m)
+unfolding audited listedAbove
+audits m = as-ruled ((10 unless isTree m) ∷ []) [] [] 0 tt
+
+-- the answer is as the rules say, and a refused call leaves memory as it was
+pub record KeepsMemory (rules : List Rule) (values : List ℕ) (m : Memory) (d : Did) : Type 0 where
+  pub ruled : AsRuled rules values [] (d .answer)
+  pub kept : 0 < d .answer .number → d .after ≡ m
+
+-- Clear: 10 for wrong lent lengths only.
+abbrev pub clearRules : Memory → List Rule
+clearRules m = (10 unless rightLengths (length (m .nodes)) (length (m .cells)) (length (m .bytes))) ∷ []
+
+pub clears : (m : Memory) → KeepsMemory (clearRules m) [] m (cleared m)
+unfolding cleared listedAbove
+clears m =
+    by (rightLengths (length (m .nodes)) (length (m .cells)) (length (m .bytes)))
+    (emptied (nodeCount (length (m .nodes))) (cellCount (length (m .cells))))
+  where
+    by : (right : Bool) (empty : Memory)
+        → KeepsMemory ((10 unless right) ∷ []) [] m (pickDid right (did (accepted []) empty) (did (record { number = 10; values = [] }) m))
+    by true empty = record { ruled = as-ruled ((10 unless true) ∷ []) [] [] 0 tt; kept = λ h. absurd (omega arith) }
+    by false empty = record { ruled = as-ruled ((10 unless false) ∷ []) [] [] 0 tt; kept = λ h. refl }
+
+-- ---- the index
+
+-- Find and the k-th entry change no byte: 7, 10, 12; and 10, 12.
+pub finds : (m : Memory) (key : List ℕ)
+    → AsRuled ((7 unless leb (length key) 256) ∷ (10 unless isTree m) ∷ (12 unless index.stored m key) ∷ []) (index.frameOf m (index.place m key)) []
+    (index.findSaid m key)
+unfolding index.findSaid listedAbove
+finds m key =
+    as-ruled ((7 unless leb (length key) 256) ∷ (10 unless isTree m) ∷ (12 unless index.stored m key) ∷ []) (index.frameOf m (index.place m key)) []
+    0 tt
+
+pub kths : (m : Memory) (k : ℕ)
+    → AsRuled ((10 unless isTree m) ∷ (12 unless ltb k (length (index.inKeyOrder m))) ∷ []) (index.entryOf m (getD (index.inKeyOrder m) k 0)) []
+    (index.kthSaid m k)
+unfolding index.kthSaid listedAbove
+kths m k =
+    as-ruled ((10 unless isTree m) ∷ (12 unless ltb k (length (index.inKeyOrder m))) ∷ []) (index.entryOf m (getD (index.inKeyOrder m) k 0)) [] 0 tt
+
+-- memory is changed only where the answer's number is 0
+kept-if-refused : (a : Answer) (after before : Memory) → 0 < a .number → index.whenAccepted a after before ≡ before
+kept-if-refused a after before h = by (eqb (a .number) 0) (eqb→eq (a .number) 0)
+  where
+    by : (zero? : Bool) → (T zero? → a .number ≡ 0) → choose zero? after before ≡ before
+    by true f = absurd (omega (arith, f tt))
+    by false f = refl
+
+-- Remove: 7, 10, 12.
+abbrev pub removeRules : Memory → List ℕ → List Rule
+removeRules m key = (7 unless leb (length key) 256) ∷ (10 unless isTree m) ∷ (12 unless index.stored m key) ∷ []
+
+pub removes : (m : Memory) (key : List ℕ) → KeepsMemory (removeRules m key) [] m (index.removed m key)
+unfolding index.removed listedAbove
+removes m key =
+    record {
+      ruled = as-ruled (removeRules m key) [] [] 0 tt;
+      kept = kept-if-refused (index.removeSaid m key) (index.without m (index.place m key)) m;
+    }
+
+-- Put: 7, 10, 11 for a stored key, 13 where more nodes or cells are needed than are free.
+abbrev pub putRules : Memory → List ℕ → List Rule
+putRules m key =
+    (7 unless leb (length key) 256) ∷ (10 unless isTree m) ∷ (11 unless not (index.stored m key)) ∷ (13 unless index.hasRoom m key) ∷ []
+
+pub puts : (m : Memory) (key : List ℕ) (frame : ℕ) → KeepsMemory (putRules m key) [] m (index.putDone m key frame)
+unfolding index.putDone listedAbove
+puts m key frame =
+    record {
+      ruled = as-ruled (putRules m key) [] [] 0 tt;
+      kept = kept-if-refused (index.putSaid m key) (index.with m key frame) m;
+    }

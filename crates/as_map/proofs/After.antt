@@ -1,0 +1,103 @@
+-- Calls one after the other, by induction: from memory that lists a map they hear what the map says, and leave memory that lists what
+-- the map leaves.
+use mathlib.Core.Path.{_≡_, refl, sym, ap, ap₂, _∙_, subst}
+use mathlib.Core.Logic.{_≢_}
+use mathlib.Core.Bool.{Bool, true, false}
+use mathlib.Core.List.{List, [], _∷_}
+use mathlib.Core.Option.{Option, none, some}
+use Prim.Native.Nat.{ℕ, zero, suc, _*_, _≤_}
+use native.Mathlib.Omega.{arith}
+use lib.Dec.{leb}
+use lib.ListN.{length}
+use Rattle.order.specs.Bytes as bytes
+use Rattle.order.specs.Bytes.{Bytes, bytewise}
+use Rattle.order.specs.Map as order
+use Rattle.order.specs.Map.{Map, All, a[], _a∷_, lookup}
+use Rattle.arena.specs.Parts.{zeros}
+use Rattle.arena.specs.Memory.{Memory, emptied}
+use Rattle.forest.specs.Trees.{choose}
+use Rattle.forest.proofs.Cleared.{cleared-tree}
+use Rattle.as_map.specs.Calls.{Call, put, find, remove, kth, OfBytes, Heard, done, frame, entry, refused, heard, left, leftAfter, roomFor, answers}
+use Rattle.as_map.specs.Map.{whether, mapSays, mapLeft, mapAnswers, mapAfter}
+use Rattle.as_map.proofs.Says.{says}
+use Rattle.as_map.proofs.Leaves.{Lists, leaves}
+
+-- ---- one call
+
+-- it hears what the map says
+pub one-heard : (m : Memory) (xs : Map) → Lists m xs → (call : Call) → OfBytes call → heard m call ≡ mapSays (roomFor m call) xs call
+one-heard m xs (v, t, bytes, e) call b = says m v t bytes call b ∙ ap (λ (ys : Map). mapSays (roomFor m call) ys call) e
+
+-- and leaves what the map does
+one-left : (m : Memory) (xs : Map) → Lists m xs → (call : Call) → OfBytes call
+    → Lists (left m call) (mapLeft (roomFor m call) xs call)
+one-left m xs (v, t, bytes, e) call b =
+    subst (λ (ys : Map). Lists (left m call) (mapLeft (roomFor m call) ys call)) e (leaves m v t bytes call b)
+
+-- ---- one call after the other
+
+pub all-heard : (m : Memory) (xs : Map) → Lists m xs → {calls : List Call} → All OfBytes calls → answers m calls ≡ mapAnswers m xs calls
+all-heard m xs l a[] = refl
+all-heard m xs l (_a∷_ {x = call} b rest) =
+    ap₂ (λ (h : Heard) (hs : List Heard). h ∷ hs) (one-heard m xs l call b)
+    (all-heard (left m call) (mapLeft (roomFor m call) xs call) (one-left m xs l call b) rest)
+
+pub all-left : (m : Memory) (xs : Map) → Lists m xs → {calls : List Call} → All OfBytes calls → Lists (leftAfter m calls) (mapAfter m xs calls)
+all-left m xs l a[] = l
+all-left m xs l (_a∷_ {x = call} b rest) =
+    all-left (left m call) (mapLeft (roomFor m call) xs call) (one-left m xs l call b) rest
+
+-- ---- a sorted map never says 10
+
+-- the number of a refusal, else 0
+abbrev pub refusalOf : Heard → ℕ
+refusalOf done = 0
+refusalOf (frame x) = 0
+refusalOf (entry key x) = 0
+refusalOf (refused n) = n
+
+not-10 : {h : Heard} (n : ℕ) → refusalOf h ≡ n → n ≢ 10 → h ≢ refused 10
+not-10 n e d q = d (sym e ∙ ap refusalOf q)
+
+says-not-10 : (room : Bool) (xs : Map) (call : Call) → mapSays room xs call ≢ refused 10
+says-not-10 room xs (put key x) = go (leb (length key) 256) (lookup bytewise key xs) room
+  where
+    go : (short : Bool) (found : Option ℕ) (room : Bool)
+        → choose short (whether (choose room done (refused 13)) (λ y. refused 11) found) (refused 7) ≢ refused 10
+    go true none true = not-10 0 refl (λ e. omega arith)
+    go true none false = not-10 13 refl (λ e. omega arith)
+    go true (some y) room = not-10 11 refl (λ e. omega arith)
+    go false found room = not-10 7 refl (λ e. omega arith)
+says-not-10 room xs (find key) = go (leb (length key) 256) (lookup bytewise key xs)
+  where
+    go : (short : Bool) (found : Option ℕ) → choose short (whether (refused 12) frame found) (refused 7) ≢ refused 10
+    go true none = not-10 12 refl (λ e. omega arith)
+    go true (some y) = not-10 0 refl (λ e. omega arith)
+    go false found = not-10 7 refl (λ e. omega arith)
+says-not-10 room xs (remove key) = go (leb (length key) 256) (lookup bytewise key xs)
+  where
+    go : (short : Bool) (found : Option ℕ) → choose short (whether (refused 12) (λ y. done) found) (refused 7) ≢ refused 10
+    go true none = not-10 12 refl (λ e. omega arith)
+    go true (some y) = not-10 0 refl (λ e. omega arith)
+    go false found = not-10 7 refl (λ e. omega arith)
+says-not-10 room xs (kth k) = go (order.kth k xs)
+  where
+    go : (o : Option (List ℕ × ℕ)) → whether (refused 12) (λ e. entry (e .0) (e .1)) o ≢ refused 10
+    go none = not-10 12 refl (λ e. omega arith)
+    go (some e) = not-10 0 refl (λ e. omega arith)
+
+pub all-not-10 : (m : Memory) (xs : Map) (calls : List Call) → All (λ h. h ≢ refused 10) (mapAnswers m xs calls)
+all-not-10 m xs [] = a[]
+all-not-10 m xs (call ∷ calls) =
+    says-not-10 (roomFor m call) xs call a∷ all-not-10 (left m call) (mapLeft (roomFor m call) xs call) calls
+
+-- ---- after a clear
+
+bytes-zeros : (n : ℕ) → Bytes (zeros n)
+bytes-zeros zero = bytes.none
+bytes-zeros (suc n) = bytes.more {x = 0} (omega arith) (bytes-zeros n)
+
+-- memory lists nothing
+pub cleared-lists : (n c : ℕ) → 1 ≤ n → n ≤ 255 → 1 ≤ c → c ≤ 255 → Lists (emptied n c) []
+cleared-lists n c n-low n-high c-low c-high =
+    let (v, t, e) = cleared-tree n c n-low n-high c-low c-high in (v, t, bytes-zeros (c * 256), e)

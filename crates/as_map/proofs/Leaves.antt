@@ -1,0 +1,110 @@
+-- What each call leaves of memory that is a tree: a tree that lists what the sorted map leaves. A refused call leaves memory as it was.
+use mathlib.Core.Path.{_≡_, refl, sym, ap}
+use mathlib.Core.Bool.{Bool, true, false, not}
+use mathlib.Core.List.{List, [], _∷_}
+use mathlib.Core.Option.{Option, none, some}
+use Prim.Native.Nat.{ℕ, _≤_, Ordering, Ordering·lt, Ordering·eq, Ordering·gt}
+use native.Mathlib.Omega.{arith}
+use lib.Dec.{leb}
+use lib.ListN.{length}
+use borrow.Author.Tests.{leb-true}
+use Rattle.puts.proofs.Puts.{put-tree}
+use Rattle.refusal.specs.Answer.{_unless_, answered}
+use Rattle.order.specs.Bytes.{Bytes, bytewise}
+use Rattle.order.specs.Map.{Map, pick, lookup, alter, insert, delete}
+use Rattle.arena.specs.Memory.{Memory}
+use Rattle.forest.specs.Trees.{choose}
+use Rattle.forest.specs.IsTree.{Layers, IsTree, listing}
+use Rattle.model.specs.Calls.{place, stored, without, with, hasRoom, removed, putDone, whenAccepted}
+use Rattle.places.proofs.Found.{isSome, stored-lookup}
+use Rattle.places.proofs.Removed.{removed-tree}
+use Rattle.as_map.specs.Calls.{Call, put, find, remove, kth, OfBytes, left, roomFor}
+use Rattle.as_map.specs.Map.{whether, mapLeft}
+use Rattle.as_map.proofs.Says.{accepted}
+
+-- memory is a tree whose keys are bytes, and it lists these entries
+abbrev pub Lists : Memory → Map → Type 0
+Lists m xs = (v : Layers) × IsTree m v × Bytes (m .bytes) × (listing m v ≡ xs)
+
+-- a key that is not there leaves nothing to delete
+delete-missing : (key : List ℕ) (xs : Map) → lookup bytewise key xs ≡ none → delete bytewise key xs ≡ xs
+unfolding lookup alter
+delete-missing key [] e = refl
+delete-missing key (x ∷ xs) e = go (bytewise key (x .0)) e (delete-missing key xs)
+  where
+    go : (o : Ordering) → pick o none (some (x .1)) (lookup bytewise key xs) ≡ none → (lookup bytewise key xs ≡ none → delete bytewise key xs ≡ xs)
+        → pick o (x ∷ xs) xs (x ∷ delete bytewise key xs) ≡ x ∷ xs
+    go Ordering·lt d rest = refl
+    go Ordering·eq d rest = let z : _≡_ {A = ℕ} 0 1 = cc in absurd (omega arith)
+    go Ordering·gt d rest = ap (λ (ys : Map). x ∷ ys) (rest d)
+
+-- ---- the rules of each call, once memory is a tree: `short` for a key of at most 256 bytes, `found` for what the map has
+
+remove-left : (short there : Bool) (after before : Memory)
+    → whenAccepted (answered ((7 unless short) ∷ (10 unless true) ∷ (12 unless there) ∷ []) [] []) after before
+    ≡ choose short (choose there after before) before
+remove-left true true after before = refl
+remove-left true false after before = refl
+remove-left false there after before = refl
+
+put-left : (short there room : Bool) (after before : Memory)
+    → whenAccepted (answered ((7 unless short) ∷ (10 unless true) ∷ (11 unless not there) ∷ (13 unless room) ∷ []) [] []) after before
+    ≡ choose short (choose there before (choose room after before)) before
+put-left true true room after before = refl
+put-left true false true after before = refl
+put-left true false false after before = refl
+put-left false there room after before = refl
+
+module _ (m : Memory) (v : Layers) (t : IsTree m v) (bytes : Bytes (m .bytes)) where
+  -- a call that leaves memory as it was
+  as-it-was : Lists m (listing m v)
+  as-it-was = (v, t, bytes, refl)
+
+  module _ (key : List ℕ) (b : Bytes key) where
+    its-rest : stored m key ≡ true → Lists (without m (place m key)) (delete bytewise key (listing m v))
+    its-rest e = let (w, u, l, c) = removed-tree m v t bytes key b e in (w, u, c, l)
+
+    remove-leaves : Lists (left m (remove key)) (mapLeft true (listing m v) (remove key))
+    unfolding removed
+    remove-leaves =
+        rw (accepted m v t bytes, remove-left (leb (length key) 256) (stored m key) (without m (place m key)) m)
+        (go (leb (length key) 256) (stored m key) (lookup bytewise key (listing m v)) (stored-lookup m v t bytes key b) (λ e. its-rest e)
+        (delete-missing key (listing m v)))
+      where
+        go : (short there : Bool) (found : Option ℕ) → there ≡ isSome found
+            → (there ≡ true → Lists (without m (place m key)) (delete bytewise key (listing m v)))
+            → (found ≡ none → delete bytewise key (listing m v) ≡ listing m v)
+            → Lists (choose short (choose there (without m (place m key)) m) m) (choose short (delete bytewise key (listing m v)) (listing m v))
+        go false there found e less same = as-it-was
+        go true true found e less same = less refl
+        go true false none e less same = (v, t, bytes, sym (same refl))
+        go true false (some x) e less same = let z : _≡_ {A = ℕ} 0 1 = cc in absurd (omega arith)
+
+    module _ (x : ℕ) where
+      its-more : leb (length key) 256 ≡ true → stored m key ≡ false → hasRoom m key ≡ true
+          → Lists (with m key x) (insert bytewise key x (listing m v))
+      its-more short e r = let (w, u, l, c) = put-tree m v t bytes key b (leb-true (length key) 256 short) x e r in (w, u, c, l)
+
+      put-leaves : Lists (left m (put key x)) (mapLeft (hasRoom m key) (listing m v) (put key x))
+      unfolding putDone
+      put-leaves =
+          rw (accepted m v t bytes, put-left (leb (length key) 256) (stored m key) (hasRoom m key) (with m key x) m)
+          (go (leb (length key) 256) (stored m key) (hasRoom m key) (lookup bytewise key (listing m v)) (stored-lookup m v t bytes key b) its-more)
+        where
+          go : (short there room : Bool) (found : Option ℕ) → there ≡ isSome found
+              → (short ≡ true → there ≡ false → room ≡ true → Lists (with m key x) (insert bytewise key x (listing m v)))
+              → Lists (choose short (choose there m (choose room (with m key x) m)) m)
+              (choose short (whether (choose room (insert bytewise key x (listing m v)) (listing m v)) (λ y. listing m v) found) (listing m v))
+          go false there room found e more = as-it-was
+          go true true room (some y) e more = as-it-was
+          go true false true none e more = more refl refl refl
+          go true false false none e more = as-it-was
+          go true true room none e more = let z : _≡_ {A = ℕ} 0 1 = cc in absurd (omega arith)
+          go true false room (some y) e more = let z : _≡_ {A = ℕ} 0 1 = cc in absurd (omega arith)
+
+  -- every call leaves what the map does
+  pub leaves : (call : Call) → OfBytes call → Lists (left m call) (mapLeft (roomFor m call) (listing m v) call)
+  leaves (put key x) b = put-leaves key b x
+  leaves (find key) b = as-it-was
+  leaves (remove key) b = remove-leaves key b
+  leaves (kth k) b = as-it-was

@@ -1,0 +1,5 @@
+pub mod Says
+pub mod Leaves
+pub mod After
+pub mod Room
+pub mod Index

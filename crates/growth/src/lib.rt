@@ -1,0 +1,1 @@
+// What a put writes over words, seen as the nodes of the trees.

@@ -1,0 +1,14 @@
+pub mod Maps
+pub mod Keys
+pub mod Entries
+pub mod Down
+pub mod Looks
+pub mod Meets
+pub mod Seen
+pub mod Found
+pub mod OneLeaf
+pub mod Taken
+pub mod FreedCells
+pub mod LeafLess
+pub mod Removed
+pub mod Unique

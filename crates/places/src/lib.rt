@@ -1,0 +1,1 @@
+// The places of keys in lent memory, seen as places in the trees of the mathematics. It is mathematics alone: proofs/.

@@ -1,0 +1,4 @@
+pub mod PutCells
+pub mod Layers
+pub mod Ways
+pub mod Puts

@@ -1,0 +1,274 @@
+-- Put: memory with a new key is a tree that lists what it did, with the key and its frame number; it takes the nodes that were needed
+-- and one cell. Assumes nothing.
+use mathlib.Core.Path.{_≡_, refl, sym, ap, ap₂, _∙_, subst}
+use mathlib.Core.Logic.{_≢_}
+use mathlib.Core.Bool.{true, false}
+use mathlib.Core.List.{List, [], _∷_}
+use mathlib.Core.Option.{Option, none, some}
+use Prim.Native.Nat.{ℕ, _+_, _≤_, _<_}
+use native.Mathlib.Omega.{arith}
+use lib.Dec.{leb}
+use lib.ListN.{length, getD, set, drop}
+use borrow.Author.Tests.{eqb-true, leb-true}
+use Rattle.order.specs.Bytes.{Bytes, bytewise}
+use Rattle.order.specs.Map as order
+use Rattle.order.specs.Map.{insert}
+use Rattle.arena.specs.Layout as layout
+use Rattle.arena.specs.Layout.{cellStart, markAt, keyAt, putCell, putKey}
+use Rattle.arena.specs.Free.{isFree, freeNodes, freeCells}
+use Rattle.arena.specs.Memory.{Memory, memory, nodeCount, cellCount}
+use Rattle.arena.proofs.Frees.{first-passing}
+use Rattle.arena.proofs.Measures.{and-true}
+use Rattle.forest.specs.IsTree.{Layers, IsTree, listing}
+use Rattle.model.specs.Calls.{nodesOf, cellsOf, place, stored, neededAt, needed, hasRoom, freshCell, nodesWith, with}
+use Rattle.trees.specs.Order.{cmpB, ikey-lt, bytes-order}
+use Rattle.trees.specs.SMap.{All, alter, lookup}
+use Rattle.trees.specs.Look.{lookup-new}
+use Rattle.trees.specs.Base.{Mem, hit-other}
+use Rattle.trees.specs.MemA.{frees, times}
+use Rattle.trees.specs.Cut.{cut15, cut-exists}
+use Rattle.trees.specs.TriePut.{key, Fits}
+use Rattle.trees.specs.Uses.{layer-same, layer-good-same}
+use Rattle.trees.specs.Cells.{Cells, cellAt, freeC, takeC, cell-same, cell-other}
+use Rattle.trees.specs.Lays.{Ptr, Lay, rootL, cntL}
+use Rattle.trees.specs.PutL.{putL, needL}
+use Rattle.trees.specs.NeedL.{needL-same}
+use Rattle.trees.specs.Index as trees
+use Rattle.trees.specs.Index.{ones-le, usesL, entriesOf, under-top, fits-top}
+use Rattle.trees.specs.Whole.{listing-sorted}
+use Rattle.views.specs.Views.{tabled, nodeView, nodesView, cellView, cellsView, layerView, Sound}
+use Rattle.views.proofs.Nodes.{nodesIn, cellsIn, cells-long, free-cells-view}
+use Rattle.views.proofs.LayerViews.{rightEdge}
+use Rattle.views.proofs.Whole.{lengths, ViewIsTree, sound-of, to-trees, listing-view, from-trees}
+use Rattle.growth.proofs.Memory.{frees-view}
+use Rattle.growth.proofs.Puts.{Rooted, top-grown}
+use Rattle.growth.proofs.Lent.{nodes-of}
+use Rattle.places.proofs.Maps.{tree-bytes, lookup-same, alter-same}
+use Rattle.places.proofs.Meets.{Way}
+use Rattle.places.proofs.Seen.{seen-key, place-way}
+use Rattle.places.proofs.Found.{isSome, stored-lookup}
+use Rattle.puts.proofs.PutCells.{put-cells-length, put-bytes-length, put-sound, put-view, put-bytes}
+use Rattle.puts.proofs.Layers.{Known, way-need}
+use Rattle.puts.proofs.Ways.{Put, way-put}
+
+head-of : (fs : List ℕ) → 1 ≤ length fs → fs ≡ getD fs 0 0 ∷ drop 1 fs
+head-of [] h = absurd (omega arith)
+head-of (f ∷ fs) h = refl
+
+none-of : {A : Type 0} (o : Option A) → isSome o ≡ false → o ≡ none
+none-of none e = refl
+none-of (some x) e = let z : _≡_ {A = ℕ} 0 1 = cc in absurd (omega arith)
+
+-- ---- memory with other nodes, and a cell taken
+
+module _ (m : Memory) (sound : Sound m) (c : ℕ) (inside : c < cellsIn m) (K : List ℕ) (short : length K ≤ 256) (frame : ℕ)
+    (result : List ℕ) (b : ℕ × Mem Ptr) (R : Rooted (m .nodes) (nodesIn m) result b) where
+  abbrev after : Memory
+  after = memory result (putCell (m .cells) c (length K) frame) (putKey (m .bytes) c K)
+
+  nodes-as-long : length result ≡ length (m .nodes)
+  nodes-as-long = R .still .long ∙ sym (lengths m (sound .lent) .nodes-whole)
+
+  cells-as-long : length (after .cells) ≡ length (m .cells)
+  cells-as-long = put-cells-length (m .cells) (m .bytes) (cellsIn m) (lengths m (sound .lent) .cells-whole) (lengths m (sound .lent) .bytes-whole) c inside K short frame
+
+  bytes-as-long : length (after .bytes) ≡ length (m .bytes)
+  bytes-as-long = put-bytes-length (m .cells) (m .bytes) (cellsIn m) (lengths m (sound .lent) .cells-whole) (lengths m (sound .lent) .bytes-whole) c inside K short frame
+
+  as-many-nodes : nodesIn after ≡ nodesIn m
+  as-many-nodes = ap nodeCount nodes-as-long
+
+  as-many-cells : cellsIn after ≡ cellsIn m
+  as-many-cells = ap cellCount cells-as-long
+
+  after-nodes : nodesView after ≡ b .1
+  after-nodes = ap (λ (n : ℕ). tabled (nodeView result) 0 n) as-many-nodes ∙ R .view
+
+  after-cells : cellsView after ≡ set (cellsView m) c (some (K, frame))
+  after-cells =
+      ap (λ (n : ℕ). tabled (cellView (after .cells) (after .bytes)) 0 n) as-many-cells
+      ∙ put-view (m .cells) (m .bytes) (cellsIn m) (lengths m (sound .lent) .cells-whole) (lengths m (sound .lent) .bytes-whole) c inside K short frame (sound .cells-sound)
+
+  after-sound : Sound after
+  after-sound = record {
+    lent = rw (nodes-as-long, cells-as-long, bytes-as-long) (sound .lent);
+    kept-zero = R .second ∙ sound .kept-zero;
+    nodes-sound = λ k h. R .still .sound k (rw (← as-many-nodes) h);
+    cells-sound = λ j h. put-sound (m .cells) (m .bytes) (cellsIn m) (lengths m (sound .lent) .cells-whole) (lengths m (sound .lent) .bytes-whole) c inside K short frame (sound .cells-sound) j (rw (← as-many-cells) h);
+  }
+
+  -- the trees' memory, cells and root are those of the view after
+  after-tree : (w : Lay 31) → trees.IsTree 15 rightEdge 31 (nodesIn m) (cellsIn m) (b .1) (set (cellsView m) c (some (K, frame))) (b .0) w → ViewIsTree after w
+  after-tree w t =
+      subst (λ (n : ℕ). trees.IsTree 15 rightEdge 31 n (cellsIn after) (nodesView after) (cellsView after) (layout.rootOf result) w) (sym as-many-nodes)
+      (subst (λ (n : ℕ). trees.IsTree 15 rightEdge 31 (nodesIn m) n (nodesView after) (cellsView after) (layout.rootOf result) w) (sym as-many-cells)
+      (subst (λ (M : Mem Ptr). trees.IsTree 15 rightEdge 31 (nodesIn m) (cellsIn m) M (cellsView after) (layout.rootOf result) w) (sym after-nodes)
+      (subst (λ (cs : Cells). trees.IsTree 15 rightEdge 31 (nodesIn m) (cellsIn m) (b .1) cs (layout.rootOf result) w) (sym after-cells)
+      (subst (λ (r : ℕ). trees.IsTree 15 rightEdge 31 (nodesIn m) (cellsIn m) (b .1) (set (cellsView m) c (some (K, frame))) r w) (sym (R .root-is)) t))))
+
+-- ---- put
+
+module _ (m : Memory) (v : Layers) (t : IsTree m v) (bytes : Bytes (m .bytes)) (K : List ℕ) (b : Bytes K) (short : length K ≤ 256) (frame : ℕ)
+    (absent : stored m K ≡ false) (room : hasRoom m K ≡ true) where
+  abbrev w : Lay 31
+  w = layerView 31 v
+
+  abbrev M : Mem Ptr
+  M = nodesView m
+
+  s : Sound m
+  s = sound-of m v t
+
+  seen : ViewIsTree m w
+  seen = to-trees m v t bytes
+
+  once : (j : ℕ) → cntL 31 w j + times (frees 0 M) j ≤ 1
+  once j = omega (arith, seen .nodes j, ones-le (nodesIn m) j)
+
+  -- ---- the cell
+
+  abbrev c : ℕ
+  c = freshCell m
+
+  abbrev others : List ℕ
+  others = drop 1 (freeCells (m .cells) (cellsOf m))
+
+  has-cell : 1 ≤ length (freeCells (m .cells) (cellsOf m))
+  has-cell = leb-true _ _ (and-true (leb 1 (length (freeCells (m .cells) (cellsOf m)))) _ room .0)
+
+  lowest-cell : freeCells (m .cells) (cellsOf m) ≡ c ∷ others
+  lowest-cell = head-of (freeCells (m .cells) (cellsOf m)) has-cell
+
+  free-cells : freeC 0 (cellsView m) ≡ c ∷ others
+  free-cells = free-cells-view m ∙ lowest-cell
+
+  abbrev cells′ : Cells
+  cells′ = set (cellsView m) c (some (K, frame))
+
+  abbrev at : ℕ → List ℕ × ℕ
+  at = cellAt cells′
+
+  taken : (c < length (cellsView m)) × (freeC 0 cells′ ≡ others)
+  taken = takeC (cellsView m) c others (K, frame) free-cells
+
+  inside : c < cellsIn m
+  inside = subst (λ (n : ℕ). c < n) (cells-long m) (taken .0)
+
+  cell-is : at c ≡ (K, frame)
+  cell-is = cell-same (cellsView m) c (K, frame) (taken .0)
+
+  key-is : key at c ≡ K
+  key-is = ap (λ (x : List ℕ × ℕ). x .0) cell-is
+
+  agree : (j : ℕ) → 1 ≤ markAt (m .cells) j → key at j ≡ keyAt (m .cells) (m .bytes) j
+  agree j h =
+      let zero-mark : markAt (m .cells) c ≡ 0 = eqb-true (markAt (m .cells) c) 0 (first-passing (isFree cellStart (m .cells)) 0 (cellsOf m) lowest-cell .passes) in
+      ap (λ (x : List ℕ × ℕ). x .0) (cell-other (cellsView m) c j (some (K, frame)) (λ e. omega (arith, ap (markAt (m .cells)) e))) ∙ seen-key m s j
+
+  used-same : (j : ℕ) → 0 < usesL 31 w j → at j ≡ cellAt (cellsView m) j
+  used-same j h =
+      cell-other (cellsView m) c j (some (K, frame)) (hit-other c j (omega (arith, seen .cells j, ap (λ (l : List ℕ). times l j) free-cells, ones-le (cellsIn m) j)))
+
+  -- ---- the key is new
+
+  absent-listed : lookup cmpB K (trees.listing 31 (cellsView m) w) ≡ none
+  absent-listed =
+      lookup-same K (trees.listing 31 (cellsView m) w) ∙ ap (order.lookup bytewise K) (sym (listing-view m v t))
+      ∙ none-of (order.lookup bytewise K (listing m v)) (sym (stored-lookup m v t bytes K b) ∙ absent)
+
+  new : All (λ e. K ≢ e .0) (trees.listing 31 (cellsView m) w)
+  new = lookup-new bytes-order K (listing-sorted 15 9 cut15 rightEdge 31 (nodesIn m) (cellsIn m) M (cellsView m) (layout.rootOf (m .nodes)) w seen) absent-listed
+
+  known : Known m s at c 31 w []
+  known = record {
+    fits = subst (λ (x : List ℕ × ℕ). Fits at 31 [] (x .0)) (sym cell-is) (fits-top at 31 K (tree-bytes b) short);
+    held = seen .holds;
+    good = (seen .good .0, layer-good-same (cellAt (cellsView m)) at 31 [] used-same (seen .good .1));
+    new = subst (λ (xs : List (List ℕ × ℕ)). All (λ e. key at c ≢ e .0) xs) (sym (layer-same (cellAt (cellsView m)) at 31 (entriesOf 31 w) used-same))
+        (subst (λ (x : List ℕ × ℕ). All (λ e. x .0 ≢ e .0) (trees.listing 31 (cellsView m) w)) (sym cell-is) new);
+    once = once;
+    deep = refl;
+  }
+
+  -- ---- the nodes
+
+  abbrev r : ℕ
+  r = layout.rootOf (m .nodes)
+
+  -- of the key as the cell has it, and then of the key
+  abbrev Along : List ℕ → Type 0
+  Along J =
+      (neededAt m J (place m K) ≡ needL 15 at J 31 [] r M)
+      × (needL 15 at J 31 [] r M ≤ length (frees 0 M) → Put m s at c 31 w 0 (nodesWith m J c (place m K)) (putL 15 9 cut15 at J c 31 [] r M))
+
+  along : Along K
+  along =
+      let W = subst (λ (J : List ℕ). Way m J 31 w [] 0 (place m K)) (sym key-is) (place-way m s w seen K b) in
+      subst Along key-is
+      (subst (λ (r : ℕ). (neededAt m (key at c) (place m K) ≡ needL 15 at (key at c) 31 [] r M)
+      × (needL 15 at (key at c) 31 [] r M ≤ length (frees 0 M) → Put m s at c 31 w 0 (nodesWith m (key at c) c (place m K)) (putL 15 9 cut15 at (key at c) c 31 [] r M))) (seen .rooted)
+      (way-need m s at c agree W absent known, way-put m s at c agree W absent known))
+
+  needs : needL 15 (cellAt (cellsView m)) K 31 [] r M ≡ needed m K
+  needs =
+      subst (λ (r : ℕ). needL 15 (cellAt (cellsView m)) K 31 [] r M ≡ needL 15 at K 31 [] r M) (seen .rooted)
+      (sym (needL-same 15 9 cut15 rightEdge (cellAt (cellsView m)) at K (λ J y. ikey-lt y) 31 [] M w (under-top K (tree-bytes b)) (seen .holds) (seen .good)
+      (λ j. omega (arith, once j)) used-same))
+      ∙ sym (along .0)
+
+  enough : needed m K ≤ length (frees 0 M)
+  enough =
+      subst (λ (fs : List ℕ). needed m K ≤ length fs) (sym (frees-view (m .nodes) (nodesIn m) (nodes-of m s .0)))
+      (leb-true _ _ (and-true (leb 1 (length (freeCells (m .cells) (cellsOf m)))) _ room .1))
+
+  abbrev grown : ℕ × Mem Ptr
+  grown = putL 15 9 cut15 at K c 31 [] r M
+
+  abbrev result : List ℕ
+  result = nodesWith m K c (place m K)
+
+  rooted : Rooted (m .nodes) (nodesIn m) result grown
+  rooted =
+      top-grown (cntL 31 w) (m .nodes) (nodesIn m) (rootL 31 w) result grown (along .1 (subst (λ (n : ℕ). n ≤ length (frees 0 M)) (along .0) enough)) (sym (seen .rooted))
+
+  abbrev Putted : Type 0
+  Putted =
+      (x : Lay 31) × trees.IsTree 15 rightEdge 31 (nodesIn m) (cellsIn m) (grown .1) cells′ (grown .0) x
+      × (trees.listing 31 cells′ x ≡ alter cmpB K (λ o. some frame) (trees.listing 31 (cellsView m) w))
+      × (frees 0 (grown .1) ≡ drop (needL 15 (cellAt (cellsView m)) K 31 [] r M) (frees 0 M))
+
+  putted : Putted
+  putted =
+      trees.put-tree 15 9 cut15 rightEdge 31 (nodesIn m) (cellsIn m) (cut-exists 9) (omega arith) (omega arith) (omega arith) (λ J y. ikey-lt y)
+      M (cellsView m) r w seen K frame (tree-bytes b) short new c others free-cells (subst (λ (n : ℕ). n ≤ length (frees 0 M)) (sym needs) enough)
+
+  -- a tree that lists what memory does, with the key and its frame number
+  abbrev pub More : Memory → Type 0
+  More after = (u : Layers) × IsTree after u × (listing after u ≡ insert bytewise K frame (listing m v)) × Bytes (after .bytes)
+
+  pub put-tree : More (with m K frame)
+  put-tree =
+      let (x, X, listed, left) = putted in
+      let (u, U, e) = from-trees (with m K frame) (after-sound m s c inside K short frame result grown rooted) x (after-tree m s c inside K short frame result grown rooted x X) in (
+        u,
+        U,
+        listing-view (with m K frame) u U
+            ∙ ap₂ (λ (cs : Cells) (y : Lay 31). trees.listing 31 cs y) (after-cells m s c inside K short frame result grown rooted) e
+            ∙ listed ∙ alter-same K (λ o. some frame) (trees.listing 31 (cellsView m) w) ∙ ap (insert bytewise K frame) (sym (listing-view m v t)),
+        put-bytes (m .bytes) c K bytes b,
+      )
+
+  -- as many nodes and cells are lent
+  pub put-lent : (nodesOf (with m K frame) ≡ nodesOf m) × (cellsOf (with m K frame) ≡ cellsOf m)
+  put-lent = (as-many-nodes m s c inside K short frame result grown rooted, as-many-cells m s c inside K short frame result grown rooted)
+
+  -- the lowest of the free nodes are taken, as many as were needed, and the lowest free cell
+  pub put-takes : (freeNodes ((with m K frame) .nodes) (nodesOf m) ≡ drop (needed m K) (freeNodes (m .nodes) (nodesOf m)))
+      × (freeCells ((with m K frame) .cells) (cellsOf m) ≡ drop 1 (freeCells (m .cells) (cellsOf m)))
+  put-takes =
+      let (x, X, listed, left) = putted in (
+        sym (frees-view result (nodesIn m) (rooted .still)) ∙ ap (frees 0) (rooted .view) ∙ left
+            ∙ ap₂ (λ (n : ℕ) (fs : List ℕ). drop n fs) needs (frees-view (m .nodes) (nodesIn m) (nodes-of m s .0)),
+        ap (freeCells ((with m K frame) .cells)) (sym (as-many-cells m s c inside K short frame result grown rooted)) ∙ sym (free-cells-view (with m K frame))
+            ∙ ap (freeC 0) (after-cells m s c inside K short frame result grown rooted) ∙ taken .1,
+      )

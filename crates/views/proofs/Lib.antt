@@ -1,0 +1,13 @@
+pub mod Nodes
+pub mod Lists
+pub mod Entries
+pub mod TreeViews
+pub mod Keys
+pub mod LayerViews
+pub mod Counts
+pub mod Balance
+pub mod Files
+pub mod Whole
+pub mod Heights
+pub mod Listed
+pub mod Few

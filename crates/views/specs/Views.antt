@@ -1,0 +1,80 @@
+-- Lent memory as the trees have it. There an ikey is one more than its eight bytes, so that 0 stands left of all.
+use Prim.Native.Nat.{ℕ, zero, suc, _+_, _-_, _<_}
+use mathlib.Core.Path.{_≡_}
+use mathlib.Core.Bool.{Bool, true, false, _&&_, _||_}
+use mathlib.Core.Logic.{_⊎_, inl, inr}
+use mathlib.Core.List.{List, [], _∷_, map}
+use mathlib.Core.Option.{Option, none, some}
+use lib.Dec.{eqb, T}
+use lib.ListN.{length, getD}
+use Rattle.arena.specs.Layout.{kindAt, markAt, frameAt, keyAt}
+use Rattle.arena.specs.Memory.{Memory, nodeCount, cellCount, rightLengths}
+use Rattle.forest.specs.Nodes.{entriesAt, ikeysAt, childrenAt, leafRight, internodeRight, nodeFree}
+use Rattle.forest.specs.Cells.{cellRight, cellFree}
+use Rattle.forest.specs.Trees as words
+use Rattle.forest.specs.Trees.{choose, seenAs}
+use Rattle.forest.specs.Layers as layers
+use Rattle.trees.specs.Base.{Key, Node, free, leaf, inner, Mem}
+use Rattle.trees.specs.TreeA.{Tree}
+use Rattle.trees.specs.Top.{Tall}
+use Rattle.trees.specs.Cells.{Cells}
+use Rattle.trees.specs.Lays.{Ptr, cell, link, Val, Lay}
+
+-- f of n numbers from i on
+abbrev pub tabled : {A : Type 0} → (ℕ → A) → ℕ → ℕ → List A
+tabled f i zero = []
+tabled f i (suc n) = f i ∷ tabled f (suc i) n
+
+-- an ikey and a class, and what an entry has
+abbrev pub keyView : words.Key → Key
+keyView k = (suc (k .0), k .1)
+
+abbrev pub refView : words.Ref → Ptr
+refView (words.cell c) = cell c
+refView (words.link n) = link n
+
+abbrev pub entryView : words.Key × words.Ref → Key × Ptr
+entryView e = (keyView (e .0), refView (e .1))
+
+-- node k: a leaf with its entries, an internode with its ikeys and children, or free
+unfoldable pub nodeView : List ℕ → ℕ → Node Ptr
+nodeView nodes k =
+    choose (eqb (kindAt nodes k) 1) (leaf (map (λ e. entryView (seenAs e)) (entriesAt nodes k)))
+    (choose (eqb (kindAt nodes k) 2) (inner (map suc (ikeysAt nodes k)) (childrenAt nodes k)) free)
+
+abbrev pub nodesView : Memory → Mem Ptr
+nodesView m = tabled (nodeView (m .nodes)) 0 (nodeCount (length (m .nodes)))
+
+-- cell c: its key and its frame number, or nothing
+unfoldable pub cellView : List ℕ → List ℕ → ℕ → Option (List ℕ × ℕ)
+cellView cells bytes c = choose (eqb (markAt cells c) 0) none (some (keyAt cells bytes c, frameAt cells c))
+
+abbrev pub cellsView : Memory → Cells
+cellsView m = tabled (cellView (m .cells) (m .bytes)) 0 (cellCount (length (m .cells)))
+
+-- the tree of a layer, and the layers
+abbrev pub treeView : (h : ℕ) → words.Tree h → Tree Ptr h
+treeView zero t = (t .0, map entryView (t .1))
+treeView (suc h) t = (t .0, map (λ p. (p .0, treeView h (p .1))) (t .1))
+
+abbrev pub valueView : (l : ℕ) → layers.Value l → Val l
+valueView zero c = c
+valueView (suc l) (inl c) = inl c
+valueView (suc l) (inr v) =
+    inr ((v .0 .0, treeView (v .0 .0) (v .0 .1)), map (λ e. (keyView (e .0), valueView l (e .1))) (v .1))
+
+abbrev pub layerView : (l : ℕ) → layers.Layer l → Lay l
+layerView l v = ((v .0 .0, treeView (v .0 .0) (v .0 .1)), map (λ e. (keyView (e .0), valueView l (e .1))) (v .1))
+
+-- What each node and each cell must be by itself, whatever is reached: in use and right, or free and zero.
+unfoldable pub nodeSound : List ℕ → ℕ → Bool
+nodeSound nodes k = nodeFree nodes k || (leafRight nodes k || internodeRight nodes k)
+
+unfoldable pub cellSound : List ℕ → List ℕ → ℕ → Bool
+cellSound cells bytes c = cellFree cells bytes c || cellRight cells bytes c
+
+pub record Sound (m : Memory) : Type 0 where
+  pub lent : T (rightLengths (length (m .nodes)) (length (m .cells)) (length (m .bytes)))
+  pub kept-zero : getD (m .nodes) 1 0 ≡ 0
+  pub nodes-sound : (k : ℕ) → k < nodeCount (length (m .nodes)) → T (nodeSound (m .nodes) k)
+  pub cells-sound : (c : ℕ) → c < cellCount (length (m .cells)) → T (cellSound (m .cells) (m .bytes) c)
