@@ -1,0 +1,7 @@
+pub mod Replies
+pub mod Listings
+pub mod Requests
+pub mod Parts
+pub mod Inputs
+pub mod Fits
+pub mod Trees

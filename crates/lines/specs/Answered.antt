@@ -1,0 +1,60 @@
+-- The answer to one line: what is printed, and what is left in memory.
+use Prim.Native.Nat.{ℕ, _≤_}
+use mathlib.Core.Path.{_≡_}
+use mathlib.Core.Bool.{Bool, cond}
+use mathlib.Core.List.{List, [], _∷_, _++_}
+use lib.Dec.{eqb}
+use lib.ListN.{length, getD}
+use Rattle.refusal.specs.Answer.{Answer}
+use Rattle.arena.specs.Layout.{keyAt, frameAt}
+use Rattle.arena.specs.Memory.{Memory, Did}
+use Rattle.forest.specs.Walk.{isTree}
+use Rattle.model.specs.Calls.{putDone, findSaid, removed, inKeyOrder}
+use Rattle.text.specs.Shown.{okLine, badLine, refusedLine, numberLine, headerLine, entryLine}
+use Rattle.text.specs.Command.{Command, put, find, del, list, bad, read}
+use Rattle.text.specs.Page.{Typed}
+
+-- a text for an accepted call, `refused N` for any other
+unfoldable pub unlessRefused : Answer → List ℕ → List ℕ
+unlessRefused a text = cond (eqb (a .number) 0) text (refusedLine (a .number))
+
+-- `KEY FRAME` for a cell
+abbrev pub entryText : Memory → ℕ → List ℕ
+entryText m c = entryLine (keyAt (m .cells) (m .bytes) c) (frameAt (m .cells) c)
+
+unfoldable pub entryTexts : Memory → List ℕ → List ℕ
+entryTexts m [] = []
+entryTexts m (c ∷ cs) = entryText m c ++ entryTexts m cs
+
+-- how many entries there are, and then each, in key order
+unfoldable pub listing : Memory → List ℕ
+listing m = headerLine (length (inKeyOrder m)) ++ entryTexts m (inKeyOrder m)
+
+unfoldable pub listed : Memory → List ℕ
+listed m = cond (isTree m) (listing m) (refusedLine 10)
+
+-- what a command prints
+unfoldable pub printed : Memory → Command → List ℕ
+printed m (put key frame) = unlessRefused (putDone m key frame .answer) okLine
+printed m (find key) = unlessRefused (findSaid m key) (numberLine (getD (findSaid m key .values) 0 0))
+printed m (del key) = unlessRefused (removed m key .answer) okLine
+printed m list = listed m
+printed m bad = badLine
+
+-- what it leaves in memory
+unfoldable pub left : Memory → Command → Memory
+left m (put key frame) = putDone m key frame .after
+left m (find key) = m
+left m (del key) = removed m key .after
+left m list = m
+left m bad = m
+
+-- memory `after`, and the answer printed at the front of the lent bytes, up to `place`
+pub record Answered (m : Memory) (command : Command) (out : List ℕ) (place : ℕ) (after : Memory) (written : List ℕ) : Type 0 where
+  pub leaves : after ≡ left m command
+  pub prints : Typed out 0 (printed m command) place written
+
+-- lent bytes enough for any answer
+pub record Room (m : Memory) (out : List ℕ) : Type 0 where
+  pub short : 100 ≤ length out
+  pub long : length (listed m) ≤ length out

@@ -1,0 +1,163 @@
+// The answer to one line. What a caller must lend stands in `requires`: bytes enough for what is printed.
+ghost use mathlib.Core.Path.{_≡_};
+ghost use mathlib.Core.Bool.{true};
+ghost use Prim.Native.Nat.{_+_, _*_, _≤_};
+ghost use lib.ListN.{length};
+ghost use Rattle.refusal.specs.Refusals.{numberOf};
+ghost use Rattle.arena.specs.Parts.{part};
+ghost use Rattle.arena.specs.Memory.{memory};
+ghost use Rattle.forest.specs.Walk.{isTree};
+ghost use Rattle.model.specs.Calls.{inKeyOrder};
+ghost use Rattle.text.specs.Page.{Typed};
+ghost use Rattle.text.specs.Shown.{refusedLine};
+ghost use Rattle.text.specs.Command.{read};
+ghost use Rattle.text.specs.Command.{put as Command·put, find as Command·find, del as Command·del};
+ghost use Rattle.lines.specs.Answered.{Answered, printed, listed, entryTexts, Room};
+use index::Added;
+use index::Found;
+use index::Listed;
+use index::Removed;
+use refusal::Refusal;
+use text::inside::Line;
+
+// `refused N`
+fn refused(out: &mut [u8], why: Refusal) -> usize
+    requires { ⌜ 100 ≤ length (now out) ⌝ }
+    ensures { λ r. ⌜ Typed (now (out .entry)) 0 (refusedLine (numberOf why)) r (now (out .exit)) ⌝ }
+{
+    text::printed::refused(out, 0, refusal::number(why))
+}
+
+// Puts a key and prints `ok`, or the refusal.
+fn put(
+    nodes: &mut [u64],
+    cells: &mut [u64],
+    bytes: &mut [u8],
+    key: &[u8],
+    frame: u64,
+    out: &mut [u8],
+) -> usize
+    requires { ⌜ 100 ≤ length (now out) ⌝ }
+    ensures { λ r. ⌜ Answered (memory (now (nodes .entry)) (now (cells .entry)) (now (bytes .entry))) (Command·put (now (key .entry)) frame) (now (out .entry)) r (memory (now (nodes .exit)) (now (cells .exit)) (now (bytes .exit))) (now (out .exit)) ⌝ }
+{
+    let answer = index::put(nodes, cells, bytes, key, frame);
+    if let Added::Refused(why) = answer {
+        return refused(out, why);
+    }
+    text::printed::ok(out, 0)
+}
+
+// Takes a key out and prints `ok`, or the refusal.
+fn del(nodes: &mut [u64], cells: &mut [u64], bytes: &mut [u8], key: &[u8], out: &mut [u8]) -> usize
+    requires { ⌜ 100 ≤ length (now out) ⌝ }
+    ensures { λ r. ⌜ Answered (memory (now (nodes .entry)) (now (cells .entry)) (now (bytes .entry))) (Command·del (now (key .entry))) (now (out .entry)) r (memory (now (nodes .exit)) (now (cells .exit)) (now (bytes .exit))) (now (out .exit)) ⌝ }
+{
+    let answer = index::remove(nodes, cells, bytes, key);
+    if let Removed::Refused(why) = answer {
+        return refused(out, why);
+    }
+    text::printed::ok(out, 0)
+}
+
+// Prints the frame number of a key, or the refusal.
+fn find(nodes: &[u64], cells: &[u64], bytes: &[u8], key: &[u8], out: &mut [u8]) -> usize
+    requires { ⌜ 100 ≤ length (now out) ⌝ }
+    ensures { λ r. ⌜ Typed (now (out .entry)) 0 (printed (memory (now (nodes .entry)) (now (cells .entry)) (now (bytes .entry))) (Command·find (now (key .entry)))) r (now (out .exit)) ⌝ }
+{
+    let answer = index::find(nodes, cells, bytes, key);
+    match answer {
+        Found::Frame(frame) => text::printed::number(out, 0, frame),
+        Found::Refused(why) => refused(out, why),
+    }
+}
+
+// How many entries a tree has, of which there are at most so many.
+fn count(nodes: &[u64], cells: &[u64], bytes: &[u8], most: u64) -> u64
+    requires { ⌜ (isTree (memory (now nodes) (now cells) (now bytes)) ≡ true) × (length (inKeyOrder (memory (now nodes) (now cells) (now bytes))) ≤ most) ⌝ }
+    ensures { λ r. ⌜ r ≡ length (inKeyOrder (memory (now (nodes .entry)) (now (cells .entry)) (now (bytes .entry)))) ⌝ }
+{
+    let mut k: u64 = 0;
+    while k < most {
+        let answer = index::kth(nodes, cells, bytes, k);
+        if let Listed::Refused(_) = answer {
+            return k;
+        }
+        k += 1;
+    }
+    k
+}
+
+// The part of the bytes that a cell's key takes up.
+fn key_in<'a>(bytes: &'a [u8], cell: u64, length: u64) -> &'a [u8]
+    ensures { λ r. ⌜ now r ≡ part (now (bytes .entry)) (cell * 256) length ⌝ }
+{
+    let all = bytes.len();
+    if all as u64 / 256 < cell {
+        return &bytes[all..all];
+    }
+    let from = cell as usize * 256;
+    if ((all - from) as u64) < length {
+        return &bytes[from..all];
+    }
+    &bytes[from..from + length as usize]
+}
+
+// Prints a line for each of n entries, in key order, from a place on.
+fn entries(nodes: &[u64], cells: &[u64], bytes: &[u8], n: u64, out: &mut [u8], at: usize) -> usize
+    requires { ⌜ isTree (memory (now nodes) (now cells) (now bytes)) ≡ true ⌝ }
+    requires { ⌜ n ≡ length (inKeyOrder (memory (now nodes) (now cells) (now bytes))) ⌝ }
+    requires { ⌜ at + length (entryTexts (memory (now nodes) (now cells) (now bytes)) (inKeyOrder (memory (now nodes) (now cells) (now bytes)))) ≤ length (now out) ⌝ }
+    ensures { λ r. ⌜ Typed (now (out .entry)) at (entryTexts (memory (now (nodes .entry)) (now (cells .entry)) (now (bytes .entry))) (inKeyOrder (memory (now (nodes .entry)) (now (cells .entry)) (now (bytes .entry))))) r (now (out .exit)) ⌝ }
+{
+    let mut next = at;
+    let mut k: u64 = 0;
+    while k < n {
+        let answer = index::kth(nodes, cells, bytes, k);
+        if let Listed::Entry {
+            cell,
+            length,
+            frame,
+        } = answer {
+            next = text::printed::entry(out, next, key_in(bytes, cell, length), frame);
+            k += 1;
+            continue;
+        }
+        return next;
+    }
+    next
+}
+
+// Prints how many entries there are, and a line for each; or the refusal.
+fn list(nodes: &[u64], cells: &[u64], bytes: &[u8], out: &mut [u8]) -> usize
+    requires { ⌜ Room (memory (now nodes) (now cells) (now bytes)) (now out) ⌝ }
+    ensures { λ r. ⌜ Typed (now (out .entry)) 0 (listed (memory (now (nodes .entry)) (now (cells .entry)) (now (bytes .entry)))) r (now (out .exit)) ⌝ }
+{
+    if !audit::is_tree(nodes, cells, bytes) {
+        return refused(out, Refusal::Memory);
+    }
+    let n = count(nodes, cells, bytes, out.len() as u64);
+    let next = text::printed::header(out, 0, n);
+    entries(nodes, cells, bytes, n, out, next)
+}
+
+// One line without its line feed.
+pub fn answer(
+    nodes: &mut [u64],
+    cells: &mut [u64],
+    bytes: &mut [u8],
+    line: &[u8],
+    out: &mut [u8],
+) -> usize
+    requires { ⌜ Room (memory (now nodes) (now cells) (now bytes)) (now out) ⌝ }
+    ensures { λ r. ⌜ Answered (memory (now (nodes .entry)) (now (cells .entry)) (now (bytes .entry))) (read (now (line .entry))) (now (out .entry)) r (memory (now (nodes .exit)) (now (cells .exit)) (now (bytes .exit))) (now (out .exit)) ⌝ }
+{
+    let mut key = [0u8; 600];
+    let asked = text::inside::read_line(line, &mut key);
+    match asked {
+        Line::Put { len, frame } => put(nodes, cells, bytes, &key[..len], frame, out),
+        Line::Find { len } => find(nodes, cells, bytes, &key[..len], out),
+        Line::Del { len } => del(nodes, cells, bytes, &key[..len], out),
+        Line::List => list(nodes, cells, bytes, out),
+        Line::Bad => text::printed::bad_line(out, 0),
+    }
+}

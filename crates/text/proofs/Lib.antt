@@ -1,0 +1,6 @@
+pub mod Splits
+pub mod Keys
+pub mod Frames
+pub mod Pages
+pub mod Wishes
+pub mod Lines

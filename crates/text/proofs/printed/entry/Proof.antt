@@ -1,0 +1,18 @@
+-- `printed::entry` meets its contract. Assumes nothing.
+use borrow.Author.Needs.{needs}
+use native.Mathlib.Omega.{arith}
+use denote.Ref.{now}
+use Rattle.text.proofs.Pages.{entry-length, entry-typed}
+use Rattle.text.proofs.printed.entry.Statement.{statement}
+use Rattle.text.proofs.printed.entry.Tie as tie
+
+pub entry-spec : {M : Type 1} → statement M
+entry-spec =
+    tie.close
+    (tie.spec
+    (λ c κs. omega (arith, entry-length (now (c .before .before .before .args .stored)) (c .before .before .before .args .frame)))
+    (λ c κs. omega (arith, entry-length (now (c .before .before .before .before .before .before .before .args .stored)) (c .before .before .before .before .before .before .before .args .frame)))
+    (λ c κs. omega (arith, entry-length (now (c .before .before .before .before .before .before .before .before .before .before .before .args .stored)) (c .before .before .before .before .before .before .before .before .before .before .before .args .frame)))
+    (λ c κs. omega (arith, entry-length (now (c .before .before .before .before .before .before .before .before .before .before .before .before .before .before .before .args .stored)) (c .before .before .before .before .before .before .before .before .before .before .before .before .before .before .before .args .frame)))
+    (λ c. search needs)
+    (λ c. search entry-typed))

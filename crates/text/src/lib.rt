@@ -1,0 +1,23 @@
+// The words of the program: a line read, and the lines that are printed. Everything stands on slices that the caller lends.
+mod fields;
+pub mod inside;
+pub mod printed;
+
+ghost use mathlib.Core.Path.{_≡_};
+ghost use Prim.Native.Nat.{_≤_};
+ghost use lib.ListN.{length};
+ghost use Rattle.text.specs.Split.{upTo};
+
+// How many bytes stand before the first separator.
+pub fn first(s: &[u8], separator: u8) -> usize
+    ensures { λ r. ⌜ (r ≡ length (upTo separator (now (s .entry)))) × (r ≤ length (now (s .entry))) ⌝ }
+{
+    let mut i = 0;
+    while i < s.len() {
+        if s[i] == separator {
+            return i;
+        }
+        i += 1;
+    }
+    i
+}
