@@ -22,7 +22,7 @@ under key offset [] = true
 under key offset (k ∷ ks) =
     eqb (ikeyAt key offset) k && (ltb (offset + 8) (length key) && under key (offset + 8) ks)
 
--- the key has the ikeys of the links above it, then this ikey and length class
+-- a key that lies below these links, and has this ikey and this class at its own layer
 unfoldable pub keyed : List ℕ → List ℕ → ℕ → ℕ → Bool
 keyed key above ikey class =
     under key 0 above

@@ -21,17 +21,17 @@ pub record IsTree (m : Memory) (v : Layers) : Type 0 where
   pub lent : T (rightLengths (length (m .nodes)) (length (m .cells)) (length (m .bytes)))
   pub rooted : layout.rootOf (m .nodes) ≡ rootOf v
   pub kept-zero : getD (m .nodes) 1 0 ≡ 0
-  -- leaf words are valid at width 15, leaf entries and internodes are as described, all leaves of one layer are equally deep;
-  -- places not in use are zero
+  -- every leaf has a valid slot word and rising entries, every internode rising ikeys and a child more; the leaves of a layer stand
+  -- at one depth; unused places hold zero
   pub held : Held (m .nodes) 31 v
-  -- each entry's ikey lies at or above the ikey to its left on the way down and below the one to its right; internode ikeys lie
-  -- strictly between those two
+  -- on the way down ikeys stay between their neighbours: an entry may have the ikey on its left, never the one on its right, and an
+  -- internode's ikeys have neither
   pub in-edges : InEdges 31 v
-  -- every node in use is reached exactly once and every cell in use belongs to one entry
+  -- nothing is reached twice, neither a node nor a cell
   pub at-most-once : (i : ℕ) → reached 31 v i ≤ 1
-  -- the cell's key has the ikeys of the links above it, then the entry's own ikey and length class; bytes past its end are zero
+  -- a cell holds a key that belongs where its entry stands: below those links, with that ikey and class; zeros follow it
   pub filed : Filed (m .cells) (m .bytes) 31 [] v
-  -- everything not reached is marked free, and zero
+  -- whatever is not reached is free: nothing but zeros
   pub other-nodes : (k : ℕ) → k < nodeCount (length (m .nodes)) → reached 31 v (nodeNo k) ≡ 0 → T (nodeFree (m .nodes) k)
   pub other-cells : (c : ℕ) → c < cellCount (length (m .cells)) → reached 31 v (cellNo c) ≡ 0 → T (cellFree (m .cells) (m .bytes) c)
 

@@ -67,7 +67,7 @@ InEdgesBy (suc l) (inr v) =
 abbrev pub InEdges : (l : ℕ) → Layer l → Type 0
 InEdges l v = Bounded (v .0 .0) leftmost rightmost (v .0 .1) × All (λ e. InEdgesBy l (e .1)) (v .1)
 
--- Each cell's key has the ikeys of the links above it, then the entry's own ikey and class
+-- Each cell holds a key that belongs where its entry stands, below the links on the way
 abbrev pub FiledBy : List ℕ → List ℕ → (l : ℕ) → List ℕ → Key → Value l → Type 0
 FiledBy cells bytes zero above k c = T (filed cells bytes above (k .0) (k .1) c)
 FiledBy cells bytes (suc l) above k (inl c) = T (filed cells bytes above (k .0) (k .1) c)

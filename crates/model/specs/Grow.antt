@@ -63,8 +63,8 @@ abbrev pub bothPut : List ℕ → ℕ → Label → Label → ℕ → List ℕ
 bothPut nodes k a b links =
     putLeaf nodes k (leafWith (inOrder (entryFor (a .key) (a .cell) links) (entryFor (b .key) (b .cell) links)))
 
--- the layers of a conflict from a layer on: each takes the lowest free node, and its number goes where the link above has it; a
--- single-link leaf for each further equal ikey with both keys still longer, then a leaf with the two
+-- the layers of a conflict from a layer on: each takes the lowest free node, and its number goes where the link above has it; while
+-- both keys agree and go on, a leaf with nothing but a link, and at last a leaf that holds both
 unfoldable pub layersGrown : ℕ → List ℕ → ℕ → ℕ → Label → Label → ℕ → List ℕ
 layersGrown zero nodes count holder a b links =
     bothPut (set nodes holder (freshNode nodes count)) (freshNode nodes count) a b links

@@ -1,5 +1,5 @@
--- The nodes that a put of a new key needs: one for each node it splits, one more for a new root of that layer, one for each new
--- layer.
+-- The nodes that a put of a new key takes: those that its splits add, a root over a root that was split, and the layers that a
+-- conflict adds.
 use Prim.Native.Nat.{ℕ, zero, suc, _+_, _*_, _%_}
 use mathlib.Core.Bool.{Bool, _&&_}
 use mathlib.Core.List.{List}
@@ -25,7 +25,7 @@ bothGoOn key other links =
     ltb (8 * links + 8) (length key)
     && (ltb (8 * links + 8) (length other) && eqb (ikeyAt key (8 * links)) (ikeyAt other (8 * links)))
 
--- the new layers of a conflict from a layer on: one for each further equal ikey with both keys still longer, and one for the two
+-- the layers that a conflict adds, from a layer on: one while both keys agree and go on, and one that holds both
 unfoldable pub layersOf : ℕ → List ℕ → List ℕ → ℕ → ℕ
 layersOf zero key other links = 1
 layersOf (suc l) key other links = choose (bothGoOn key other links) (suc (layersOf l key other (suc links))) 1
