@@ -1,8 +1,8 @@
 -- Demand 1: bad input gets its numbered refusal, exactly under the condition that document 01 states, the lowest number where
 -- several apply; a refused call hands the word, the key or the node back unchanged.
 --
--- That every call ends on any input needs no statement here: each function is proved to end, and no public function requires
--- anything. Below, each kind of call is listed with its rules, as in document 01's table: `4 unless leb n w` gives 4 unless
+-- That every call ends on any input needs no statement here: each function is proved to end, and no call of the table
+-- requires anything. Below, each kind of call is listed with its rules, as in document 01's table: `4 unless leb n w` gives 4 unless
 -- n ≤ W. `AsRuled rules values back answer` says: where no rule applies the answer is accepted with the values; else its number
 -- is the lowest that applies, and what was given comes back. `KeepsMemory` adds, for calls on lent memory, that a refused call leaves
 -- every word and byte as it was.
