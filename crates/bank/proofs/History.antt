@@ -1,6 +1,6 @@
 -- Slots go out in the order of the free list, and a withdrawn run leaves no trace, at every width. Assumes nothing.
 use mathlib.Core.Path.{_≡_, refl, sym, ap, ap₂, _∙_}
-use mathlib.Core.Bool.{Bool, true, false, _&&_}
+use mathlib.Core.Bool.{Bool, true, false, cond, _&&_}
 use mathlib.Core.List.{List, [], _∷_, _++_, reverse, append-assoc, append-nil, reverse-cons, reverse-append, reverse-reverse}
 use Prim.Native.Nat.{ℕ, suc, _+_, _-_, _≤_, _<_}
 use native.Mathlib.Omega.{arith}
@@ -12,7 +12,7 @@ use Rattle.refusal.specs.Answer.{allHold}
 use Rattle.bank.specs.Lists.{turned, part, up}
 use Rattle.bank.specs.Bank.{Bank, width, slotAt, placeInUse, sorted, insertedFromBack, removed, removedToBack}
 use Rattle.bank.specs.Calls.{Change, insertFromBack, removeToBack}
-use Rattle.bank.specs.History.{Done, Call, inserting, removing, removingSlot, asChange, Step, call, burst, withoutBursts, takenBack, withdrawnRun, ran, pickDone, bankDoes, free}
+use Rattle.bank.specs.History.{Done, Call, inserting, removing, removingSlot, asChange, Step, call, burst, withoutBursts, takenBack, withdrawnRun, ran, bankDoes, free}
 use Rattle.bank.proofs.Counts.{place-found}
 use Rattle.bank.proofs.Moves.{length-turned, part-one, part-rest, drop-turned, turned-back}
 use Rattle.bank.proofs.Sorted.{sorted-slots, sorted-size, sorted-width, length-up}
@@ -71,7 +71,7 @@ module _ (b : Bank) (h : b .size ≤ width b) where
   queued-insert i = by (leb i (b .size)) (ltb (b .size) (width b)) (leb-true i (b .size)) (ltb-true (b .size) (width b))
     where
       by : (p q : Bool) → (p ≡ true → i ≤ b .size) → (q ≡ true → b .size < width b)
-          → Queued b (pickDone (p && (q && true))
+          → Queued b (cond (p && (q && true))
           (record { now = insertedFromBack i b; handed = slotAt (width b - 1) b ∷ []; released = [] })
           (record { now = b; handed = []; released = [] }))
       by true true f g =
@@ -88,7 +88,7 @@ module _ (b : Bank) (h : b .size ≤ width b) where
 
   -- both removals: at a position, and where a slot is in use
   queued-removed : (i : ℕ) (freed : List ℕ) (p : Bool) → (p ≡ true → (i < b .size) × (freed ≡ slotAt i b ∷ []))
-      → Queued b (pickDone (p && true) (record { now = removed i b; handed = []; released = freed })
+      → Queued b (cond (p && true) (record { now = removed i b; handed = []; released = freed })
       (record { now = b; handed = []; released = [] }))
   queued-removed i freed true f =
       let l : length (turned i (i + 1) (b .size) (b .slots))
@@ -139,7 +139,7 @@ unfolding bankDoes allHold
 withdrawn-one i b = by (leb i (b .size)) (ltb (b .size) (width b)) (leb-true i (b .size)) (ltb-true (b .size) (width b))
   where
     by : (p q : Bool) → (p ≡ true → i ≤ b .size) → (q ≡ true → b .size < width b)
-        → (let d = pickDone (p && (q && true))
+        → (let d = cond {A = Done Bank} (p && (q && true))
         (record { now = insertedFromBack i b; handed = slotAt (width b - 1) b ∷ []; released = [] })
         (record { now = b; handed = []; released = [] }) in
         takenBack bankDoes i (d .handed) (d .now)) ≡ b

@@ -3,3 +3,4 @@ pub mod Counts
 pub mod Moves
 pub mod Sorted
 pub mod History
+pub mod Rules

@@ -1,6 +1,6 @@
 -- A bank of slots, whatever holds it: a word today, wider memory later.
 use Prim.Native.Nat.{ℕ, _+_, _-_}
-use mathlib.Core.Bool.{Bool, true, false, _&&_}
+use mathlib.Core.Bool.{Bool, cond, _&&_}
 use mathlib.Core.List.{List}
 use lib.ListN.{length, getD, take}
 use lib.Dec.{ltb, leb}
@@ -27,14 +27,10 @@ slotAt i b = getD (b .slots) i 0
 abbrev pub placeInUse : ℕ → Bank → ℕ
 placeInUse s b = placeOf s (take (b .size) (b .slots))
 
-abbrev pub either : Bool → ℕ → ℕ → ℕ
-either true x y = x
-either false x y = y
-
 -- the sorted bank of width W with n slots taken: position i holds i for i < n, and W-1-(i-n) above; with none taken it is
 -- the empty bank, whose position i holds W-1-i
 abbrev pub sortedAt : ℕ → ℕ → ℕ → ℕ
-sortedAt w n i = either (ltb i n) i (w - 1 - (i - n))
+sortedAt w n i = cond (ltb i n) i (w - 1 - (i - n))
 
 unfoldable pub sorted : ℕ → ℕ → Bank
 sorted w n = record { size = n; slots = listed (sortedAt w n) 0 w }

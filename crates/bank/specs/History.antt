@@ -1,6 +1,6 @@
 -- Histories: any list of calls, whatever holds the bank, and what they hand out and release.
 use Prim.Native.Nat.{ℕ}
-use mathlib.Core.Bool.{Bool, true, false}
+use mathlib.Core.Bool.{cond}
 use mathlib.Core.List.{List, [], _∷_, _++_, reverse}
 use lib.ListN.{drop}
 use Rattle.refusal.specs.Answer.{allHold}
@@ -82,14 +82,10 @@ releasedBy (removeSlot s) b = s ∷ []
 releasedBy (exchange i j) b = []
 releasedBy (rotate i j) b = []
 
-abbrev pub pickDone : Bool → Done Bank → Done Bank → Done Bank
-pickDone true a b = a
-pickDone false a b = b
-
 -- a call on the bank itself: accepted where every condition holds, and nothing at all otherwise
 unfoldable pub bankDoes : Change → Bank → Done Bank
 bankDoes c b =
-    pickDone (allHold (changeRules c b))
+    cond (allHold (changeRules c b))
     (record { now = after c b; handed = handedOut c b; released = releasedBy c b })
     (record { now = b; handed = []; released = [] })
 

@@ -1,45 +1,13 @@
 -- A number by its nibbles: what masks, shifts and joins do to the list. Assumes nothing.
-use mathlib.Core.Path.{_≡_, refl, sym, ap, ap₂, _∙_, subst}
+use mathlib.Core.Path.{_≡_, refl, sym, ap, ap₂, _∙_}
 use mathlib.Core.List.{List, [], _∷_, _++_}
 use Prim.Native.Nat.{ℕ, zero, suc, _+_, _-_, _*_, _/_, _%_, _^_, _≤_, _<_}
-use native.Mathlib.Nat.{
-  le-of-suc-le-suc,
-  not-suc-le-zero,
-  add-assoc,
-  add-mul,
-  mul-assoc,
-  mul-one,
-  mul-suc,
-  mod-eq-of-lt,
-  mod-lt,
-  mod-one,
-  div-one,
-  sub-zero,
-  suc-sub-suc,
-  div-div-eq-div-mul,
-  mul-comm,
-  add-zero,
-  one-mul,
-  lt-of-lt-of-le,
-  le-trans,
-  le-of-eq,
-  zero-lt-suc,
-  zero-add,
-  zero-mul,
-  suc-add,
-  div-eq-of-lt,
-}
+use native.Mathlib.Nat.{le-of-suc-le-suc, not-suc-le-zero, add-assoc, add-mul, mul-assoc, mul-one, mul-suc, mod-eq-of-lt, mod-lt, mod-one, div-one, sub-zero, suc-sub-suc, div-div-eq-div-mul, mul-comm, add-zero, one-mul, lt-of-lt-of-le, le-trans, le-of-eq, zero-lt-suc, zero-add, suc-add}
 use native.Mathlib.Omega.{arith}
-use native.Mathlib.Numerals.{add-one}
-use lib.ListN.{length, getD, take, drop, set, length-set}
-use lib.Seq.{set-split, getD-set-same, getD-set-other}
+use lib.ListN.{length, getD, take, drop}
 use lib.Arith.{mod-mul, digits-lt, digits-div, digits-mod}
 use lib.Bits.{bitAnd, bitOr, and-mask, or-shifted}
 use lib.Pow.{pow-add, pow-pos, pow-mono, pow-lt, shr-lt, shl-exact}
-use native.Mathlib.Decide.{decLt, ℕ-discrete}
-use Rattle.bank.specs.Lists.{turned, part, count}
-use Rattle.bank.proofs.Counts.{count-none, count-other, count-at}
-use Rattle.bank.proofs.Moves.{length-turned, count-turned}
 use Rattle.nibbles.specs.Nibbles.{pack, nibbles}
 
 pub pow-step : (k : ℕ) → 2 ^ (4 * suc k) ≡ 2 ^ (4 * k) * 16
@@ -72,11 +40,6 @@ drop-nibbles (suc j) zero v h = absurd (not-suc-le-zero h)
 drop-nibbles (suc j) (suc k) v h =
     drop-nibbles j k (v / 16) (le-of-suc-le-suc h) ∙ rw (suc-sub-suc, pow-step, div-div-eq-div-mul, mul-comm 16)
 
-pub part-nibbles : (a b m v : ℕ) → a ≤ b → b ≤ m → part a b (nibbles m v) ≡ nibbles (b - a) (v / 2 ^ (4 * a))
-part-nibbles a b m v h k =
-    ap (take (b - a)) (drop-nibbles a m v (omega arith))
-    ∙ take-nibbles (b - a) (m - a) (v / 2 ^ (4 * a)) (omega arith)
-
 -- ---- packed again
 
 pub pack-append : (xs ys : List ℕ) → pack (xs ++ ys) ≡ pack ys * 2 ^ (4 * length xs) + pack xs
@@ -92,19 +55,6 @@ pack-nibbles (suc k) v = rw (pack-nibbles k (v / 16), pow-step k) (sym (mod-mul 
 pub pack-whole : (m v : ℕ) → v < 2 ^ (4 * m) → pack (nibbles m v) ≡ v
 pack-whole m v h = pack-nibbles m v ∙ mod-eq-of-lt h
 
--- two runs, one above the other
-pub pack-join : (k v : ℕ) (ys : List ℕ) → pack (nibbles k v ++ ys) ≡ pack ys * 2 ^ (4 * k) + v % 2 ^ (4 * k)
-pack-join k v ys = rw (pack-append, length-nibbles, pack-nibbles)
-
--- the nibbles from c on of a number of m nibbles
-pub top-lt : (c m v : ℕ) → c ≤ m → v < 2 ^ (4 * m) → v / 2 ^ (4 * c) < 2 ^ (4 * (m - c))
-top-lt c m v h l =
-    shr-lt (4 * (m - c)) (4 * c)
-    (subst (λ (x : ℕ). v < 2 ^ x) (let e : 4 * m ≡ 4 * (m - c) + 4 * c = omega arith in e) l)
-
-pub pack-top : (c m v : ℕ) → c ≤ m → v < 2 ^ (4 * m) → pack (nibbles (m - c) (v / 2 ^ (4 * c))) ≡ v / 2 ^ (4 * c)
-pack-top c m v h l = pack-nibbles (m - c) (v / 2 ^ (4 * c)) ∙ mod-eq-of-lt (top-lt c m v h l)
-
 -- a list of numbers below 16 is what its packed number's nibbles are
 abbrev pub Small : List ℕ → Type 0
 Small ds = (i : ℕ) → i < length ds → getD ds i 0 < 16
@@ -112,19 +62,6 @@ Small ds = (i : ℕ) → i < length ds → getD ds i 0 < 16
 pub small-nibbles : (k v : ℕ) → Small (nibbles k v)
 small-nibbles k v i h =
     rw (getD-nibbles k v i (let l : i < k = omega (arith, length-nibbles k v) in l)) (mod-lt (v / 2 ^ (4 * i)) (zero-lt-suc 15))
-
--- no number from 16 on stands among nibbles, nor among nibbles that changed places
-none-nibbles : (s k v : ℕ) → 16 ≤ s → count s (nibbles k v) ≡ 0
-unfolding nibbles
-none-nibbles s zero v h = count-none s
-none-nibbles s (suc k) v h = count-other (v % 16) s (nibbles k (v / 16)) (λ e. omega arith) ∙ none-nibbles s k (v / 16) h
-
-small-if-none : (ds : List ℕ) → ((s : ℕ) → 16 ≤ s → count s ds ≡ 0) → Small ds
-small-if-none ds h i l =
-    elim (decLt (getD ds i 0) 16) [
-      | yes m ↦ m
-      | no m ↦ absurd (omega (arith, count-at ds i l, h (getD ds i 0) (omega arith)))
-    ]
 
 pub pack-lt : (ds : List ℕ) → Small ds → pack ds < 2 ^ (4 * length ds)
 unfolding pack
@@ -152,72 +89,6 @@ nibbles-join (suc j) k above below h =
     let rest : (above * 2 ^ (4 * suc j) + below) / 16 ≡ above * 2 ^ (4 * j) + below / 16 = omega arith in
     ap (λ (n : ℕ). nibbles n (above * 2 ^ (4 * suc j) + below)) (suc-add j k)
     ∙ ap₂ (λ (d : ℕ) (l : List ℕ). d ∷ l) head (ap (nibbles (j + k)) rest ∙ nibbles-join j k above (below / 16) (omega arith))
-
--- ---- moves, as the code makes them
-
-pub pack-turned : (m v a b c : ℕ) → a ≤ b → b ≤ c → c ≤ m → v < 2 ^ (4 * m)
-    → pack (turned a b c (nibbles m v))
-    ≡ ((v / 2 ^ (4 * c) * 2 ^ (4 * (b - a)) + v / 2 ^ (4 * a) % 2 ^ (4 * (b - a))) * 2 ^ (4 * (c - b))
-    + v / 2 ^ (4 * b) % 2 ^ (4 * (c - b))) * 2 ^ (4 * a) + v % 2 ^ (4 * a)
-unfolding turned
-pack-turned m v a b c h k l f =
-    rw (
-      take-nibbles a m v (omega arith),
-      part-nibbles b c m v k l,
-      part-nibbles a b m v h (omega arith),
-      drop-nibbles c m v l,
-      pack-join a,
-      pack-join (c - b),
-      pack-join (b - a),
-      pack-top c m v l f,
-    )
-
-pub turned-lt : {r : ℕ} (m v a b c : ℕ) → a ≤ b → b ≤ c → r ≡ pack (turned a b c (nibbles m v)) → r < 2 ^ (4 * m)
-turned-lt m v a b c h k e =
-    rw e
-    (subst (λ (n : ℕ). pack (turned a b c (nibbles m v)) < 2 ^ (4 * n)) (length-turned a b c (nibbles m v) h k ∙ length-nibbles m v)
-    (pack-lt (turned a b c (nibbles m v))
-    (small-if-none (turned a b c (nibbles m v)) (λ s l. count-turned s a b c (nibbles m v) h k ∙ none-nibbles s m v l))))
-
--- an insertion: what stood from i to m-2 moves up, and the top nibble goes below it
-pub pack-inserted : (m v i : ℕ) → i < m → v < 2 ^ (4 * m)
-    → pack (turned i (m - 1) m (nibbles m v))
-    ≡ (v / 2 ^ (4 * i) % 2 ^ (4 * (m - 1 - i)) * 16 + v / 2 ^ (4 * (m - 1))) * 2 ^ (4 * i) + v % 2 ^ (4 * i)
-pack-inserted m v i h f =
-    pack-turned m v i (m - 1) m (omega arith) (omega arith) (omega arith) f
-    ∙ rw (div-eq-of-lt f, let e : m - (m - 1) ≡ 1 = omega arith in e, mod-eq-of-lt top, zero-mul, zero-add)
-  where
-    top : v / 2 ^ (4 * (m - 1)) < 16
-    top = shr-lt 4 (4 * (m - 1)) (subst (λ (n : ℕ). v < 2 ^ n) (let e : 4 * m ≡ 4 + 4 * (m - 1) = omega arith in e) f)
-
-pub pack-set : (m v k x : ℕ) → k < m → v < 2 ^ (4 * m)
-    → pack (set (nibbles m v) k x) ≡ (v / 2 ^ (4 * (k + 1)) * 16 + x) * 2 ^ (4 * k) + v % 2 ^ (4 * k)
-unfolding pack
-pack-set m v k x h f =
-    rw (
-      set-split (nibbles m v) k x (let l : k < length (nibbles m v) = rw length-nibbles h in l),
-      take-nibbles k m v (omega arith),
-      drop-nibbles (suc k) m v h,
-      pack-join k,
-      ← add-one k,
-    )
-    (ap (λ (y : ℕ). (y * 16 + x) * 2 ^ (4 * k) + v % 2 ^ (4 * k)) (pack-top (k + 1) m v (omega arith) f))
-
-pub small-set : (m v k x : ℕ) → k < m → x < 16 → Small (set (nibbles m v) k x)
-small-set m v k x h l i n =
-    elim (ℕ-discrete i k) [
-      | yes e ↦ rw (e, getD-set-same (nibbles m v) k x 0 (rw length-nibbles h)) l
-      | no e ↦ rw (getD-set-other (nibbles m v) k i x 0 e) (small-nibbles m v i (rw length-set at n))
-    ]
-
-pub length-put : (m v k x : ℕ) → length (set (nibbles m v) k x) ≡ m
-length-put m v k x = length-set (nibbles m v) k x ∙ length-nibbles m v
-
-pub put-lt : {r : ℕ} (m v k x : ℕ) → k < m → x < 16 → r ≡ pack (set (nibbles m v) k x) → r < 2 ^ (4 * m)
-put-lt m v k x h l e =
-    rw e
-    (subst (λ (n : ℕ). pack (set (nibbles m v) k x) < 2 ^ (4 * n)) (length-put m v k x)
-    (pack-lt (set (nibbles m v) k x) (small-set m v k x h l)))
 
 -- ---- the code's masks, shifts and joins
 

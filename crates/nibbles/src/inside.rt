@@ -1,21 +1,15 @@
 // The nibbles of a slot word by shifts and masks, and the judgement of a word. What a caller must know stands in
 // `requires`.
 ghost use mathlib.Core.Path.{_≡_};
-ghost use mathlib.Core.List.{_∷_};
 ghost use Prim.Native.Nat.{ℕ, _+_, _-_, _*_, _/_, _%_, _^_, _≤_, _<_};
-ghost use lib.ListN.{set};
-ghost use Rattle.bank.specs.Lists.{turned, swapped, placeOf, eachOnce};
-ghost use Rattle.bank.specs.Bank.{sorted, insertedFromBack, exchanged, resized, placeInUse};
-ghost use Rattle.nibbles.specs.Nibbles.{pack, nibbles};
-ghost use Rattle.nibbles.specs.Words.{bankOf, wordOf, validWord};
+ghost use Rattle.bank.specs.Lists.{eachOnce};
+ghost use Rattle.nibbles.specs.Nibbles.{nibbles};
+ghost use Rattle.nibbles.specs.Words.{validWord};
 ghost use Rattle.nibbles.specs.Judged.{judged};
 use refusal::Refusal;
 
 // Nibble i is i.
 const RISING: u64 = 0xFEDC_BA98_7654_3210;
-
-// Nibble i is 14 - i.
-const FALLING: u64 = 0x012_3456_789A_BCDE;
 
 pub enum Verdict {
     Fine,
@@ -108,86 +102,4 @@ pub fn judge(word: u64, width: usize) -> Verdict
         return Verdict::No(Refusal::Word);
     }
     Verdict::Fine
-}
-
-// Nibbles a to c-1 become old b to c-1, then old a to b-1.
-pub fn turn(x: u64, width: usize, a: usize, b: usize, c: usize) -> u64
-    requires { ⌜ (a ≤ b) × (b ≤ c) × (c ≤ width) × (width ≤ 15) × (x < 2 ^ (4 * width)) ⌝ }
-    ensures { λ r. ⌜ r ≡ pack (turned a b c (nibbles width x)) ⌝ }
-{
-    let first = low(high(x, a), b - a);
-    let second = low(high(x, b), c - b);
-    let above = join(first, high(x, c), b - a);
-    join(low(x, a), join(second, above, c - b), a)
-}
-
-// The word whose positions a to c-1 are old b to c-1, then old a to b-1, with a size of its own.
-pub fn moved(word: u64, width: usize, a: usize, b: usize, c: usize, size: usize) -> u64
-    requires { ⌜ (a ≤ b) × (b ≤ c) × (c ≤ width) × (width ≤ 15) × (size < 16) × (word < 2 ^ (4 * (width + 1))) ⌝ }
-    ensures { λ r. ⌜ r ≡ pack (size ∷ turned a b c (nibbles width (word / 16))) ⌝ }
-{
-    join(size as u64, turn(high(word, 1), width, a, b, c), 1)
-}
-
-// The slot at the back goes to position i, the later ones move up, and one more is in use.
-pub fn inserted(word: u64, width: usize, i: usize) -> u64
-    requires { ⌜ (i ≤ word % 16) × (word % 16 < width) × (width ≤ 15) × (word < 2 ^ (4 * (width + 1))) ⌝ }
-    ensures { λ r. ⌜ r ≡ wordOf (insertedFromBack i (bankOf width word)) ⌝ }
-{
-    let kept = low(word, width);
-    let from_i = join(high(word, width), high(kept, i + 1), 1);
-    join(low(kept, i + 1) + 1, from_i, i + 1)
-}
-
-// Nibble k is d, the others stay.
-pub fn put(x: u64, width: usize, k: usize, d: usize) -> u64
-    requires { ⌜ (k < width) × (width ≤ 15) × (d < 16) × (x < 2 ^ (4 * width)) ⌝ }
-    ensures { λ r. ⌜ r ≡ pack (set (nibbles width x) k d) ⌝ }
-{
-    join(low(x, k), join(d as u64, high(x, k + 1), 1), k)
-}
-
-// The same positions with another size.
-pub fn resize(word: u64, width: usize, n: usize) -> u64
-    requires { ⌜ (n < 16) × (word < 2 ^ (4 * (width + 1))) ⌝ }
-    ensures { λ r. ⌜ r ≡ wordOf (resized n (bankOf width word)) ⌝ }
-{
-    join(n as u64, high(word, 1), 1)
-}
-
-// Positions i and j change places.
-pub fn swap(word: u64, width: usize, i: usize, j: usize) -> u64
-    requires { ⌜ (i < width) × (j < width) × (width ≤ 15) × (word < 2 ^ (4 * (width + 1))) ⌝ }
-    ensures { λ r. ⌜ r ≡ wordOf (exchanged i j (bankOf width word)) ⌝ }
-{
-    let slots = high(word, 1);
-    let one = put(slots, width, i, nibble(slots, j));
-    let both = put(one, width, j, nibble(slots, i));
-    join(low(word, 1), both, 1)
-}
-
-// The position in use that holds the slot, or the size.
-pub fn place(word: u64, width: usize, slot: usize) -> usize
-    requires { ⌜ (word % 16 ≤ width) × (width ≤ 15) ⌝ }
-    ensures { λ r. ⌜ r ≡ placeInUse slot (bankOf width word) ⌝ }
-{
-    let size = size_of(word);
-    let mut i: usize = 0;
-    while i < size {
-        if nibble(word, i + 1) == slot {
-            return i;
-        }
-        i += 1;
-    }
-    i
-}
-
-// The sorted word with n slots in use.
-pub fn sorted(width: usize, n: usize) -> u64
-    requires { ⌜ (n ≤ width) × (width ≤ 15) ⌝ }
-    ensures { λ r. ⌜ r ≡ wordOf (sorted width n) ⌝ }
-{
-    let taken = low(RISING, n);
-    let free = low(high(FALLING, 15 - width), width - n);
-    join(n as u64, join(taken, free, n), 1)
 }

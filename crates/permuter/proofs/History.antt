@@ -1,6 +1,6 @@
 -- A word goes through a history as the bank that it packs does. Assumes nothing.
 use mathlib.Core.Path.{_≡_, refl, sym, ap, ap₂, _∙_, subst}
-use mathlib.Core.Bool.{Bool, true, false, _&&_}
+use mathlib.Core.Bool.{Bool, true, false, cond, _&&_}
 use mathlib.Core.List.{List, [], _∷_, _++_}
 use Prim.Native.Nat.{ℕ, zero, suc, _+_, _-_, _*_, _/_, _%_, _^_, _≤_, _<_}
 use native.Mathlib.Nat.{div-eq-of-lt}
@@ -43,7 +43,6 @@ use Rattle.bank.specs.History.{
   withdrawnRun,
   ran,
   releasedBy,
-  pickDone,
   bankDoes,
 }
 use Rattle.bank.proofs.Tests.{is-true}
@@ -159,7 +158,7 @@ same-does w b f c =
   where
     by : (p : Bool) → allHold (changeRules c b) ≡ p
         → doneBy (answered (changeRules c b) (wordOf (after c b) ∷ handedOut c b) (wordOf b ∷ [])) (releasedBy c b)
-        ≡ asWord (pickDone p (record { now = after c b; handed = handedOut c b; released = releasedBy c b })
+        ≡ asWord (cond p (record { now = after c b; handed = handedOut c b; released = releasedBy c b })
         (record { now = b; handed = []; released = [] }))
     by true e = rw (accepted-if (changeRules c b) (wordOf (after c b) ∷ handedOut c b) (wordOf b ∷ []) e)
     by false e =
@@ -171,7 +170,7 @@ same-does w b f c =
         )
 
 fit-removing : (w i : ℕ) (b : Bank) → Fit w b → (p : Bool) → (p ≡ true → i < b .size) → (freed : List ℕ)
-    → Fit w (pickDone (p && true) (record { now = removed i b; handed = []; released = freed })
+    → Fit w (cond {A = Done Bank} (p && true) (record { now = removed i b; handed = []; released = freed })
     (record { now = b; handed = []; released = [] }) .now)
 fit-removing w i b f true g freed = fit-removed w i b f (g refl)
 fit-removing w i b f false g freed = f
@@ -182,7 +181,7 @@ unfolding bankDoes allHold
 fit-does w b f (inserting i) = by (leb i (b .size)) (ltb (b .size) (width b)) (leb-true i (b .size)) (ltb-true (b .size) (width b))
   where
     by : (p q : Bool) → (p ≡ true → i ≤ b .size) → (q ≡ true → b .size < width b)
-        → Fit w (pickDone (p && (q && true)) (record {
+        → Fit w (cond {A = Done Bank} (p && (q && true)) (record {
           now = insertedFromBack i b;
           handed = handedOut
               (insertFromBack i) b;

@@ -1,6 +1,6 @@
 -- The order of the slots handed out, from what `make_sorted` and `empty` answer. Assumes nothing.
 use mathlib.Core.Path.{_≡_, refl, sym, ap, _∙_}
-use mathlib.Core.Bool.{Bool, true, false, _&&_}
+use mathlib.Core.Bool.{Bool, true, false, cond, _&&_}
 use mathlib.Core.List.{List, [], _∷_, _++_}
 use Prim.Native.Nat.{ℕ, _-_, _≤_, _<_}
 use native.Mathlib.Omega.{arith}
@@ -8,7 +8,7 @@ use lib.ListN.{length, getD, take, length-take}
 use lib.Seq.{getD-take}
 use lib.Dec.{leb}
 use borrow.Author.Tests.{leb-true, le-leb}
-use Rattle.refusal.specs.Answer.{Answer, accepted, pick}
+use Rattle.refusal.specs.Answer.{Answer, accepted}
 use Rattle.bank.specs.Lists.{up}
 use Rattle.bank.specs.Bank.{sorted}
 use Rattle.bank.specs.History.{Step, ran}
@@ -29,7 +29,7 @@ unfolding madeSorted
 started w n start = by (leb 1 w) (leb w 15) (leb n w) (leb-true 1 w) (leb-true w 15) (leb-true n w)
   where
     by : (p q r : Bool) → (p ≡ true → 1 ≤ w) → (q ≡ true → w ≤ 15) → (r ≡ true → n ≤ w)
-        → pick (p && q) (pick r (accepted (wordOf (sorted w n) ∷ [])) (record { number = 4; values = [] }))
+        → cond (p && q) (cond r (accepted (wordOf (sorted w n) ∷ [])) (record { number = 4; values = [] }))
         (record { number = 1; values = [] }) ≡ accepted (start ∷ [])
         → Started w n start
     by true true true f g h e =

@@ -5,7 +5,6 @@ ghost use mathlib.Core.Path.{_≡_};
 ghost use Rattle.bank.specs.Calls.{insertFromBack, remove, removeToBack, removeSlot};
 ghost use Rattle.slot_answers.specs.Words.{changed};
 ghost use Rattle.slot_answers.specs.Answers.{saidChanged, saidInserted};
-use nibbles::inside;
 use nibbles::inside::Verdict;
 use nibbles::inside::judge;
 use refusal::Refusal;
@@ -24,6 +23,7 @@ pub use slot_questions::from_value;
 pub use slot_questions::get;
 pub use slot_questions::make_sorted;
 pub use slot_questions::size;
+use turns::inside;
 
 // The slot at the back is put to use at position i.
 pub fn insert_from_back(word: u64, width: usize, i: usize) -> Inserted

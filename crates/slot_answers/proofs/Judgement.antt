@@ -1,6 +1,6 @@
 -- What follows from the judgement of a word, for the calls that begin with it. Assumes nothing.
 use mathlib.Core.Path.{_≡_, refl, sym, ap, _∙_}
-use mathlib.Core.Bool.{Bool, true, false, _&&_}
+use mathlib.Core.Bool.{Bool, true, false, cond, _&&_}
 use mathlib.Core.List.{List, [], _∷_}
 use Prim.Native.Nat.{ℕ, _+_, _*_, _/_, _%_, _^_, _≤_, _<_}
 use native.Mathlib.Omega.{arith}
@@ -74,8 +74,8 @@ module _ (w word : ℕ) {v : Verdict} (e : v ≡ judged w word) where
     where
       by : (p q : Bool) → orElse p Width (orElse q Word Fine) ≡ No why
           → refused why (word ∷ [])
-          ≡ Rattle.refusal.specs.Answer.pick p
-          (Rattle.refusal.specs.Answer.pick q (answered rules values (word ∷ [])) (record { number = 2; values = word ∷ [] }))
+          ≡ cond p
+          (cond q (answered rules values (word ∷ [])) (record { number = 2; values = word ∷ [] }))
           (record { number = 1; values = word ∷ [] })
       by true true d = absurd (let z : _≡_ {A = ℕ} 0 1 = cc in omega arith)
       by true false d = ap (λ (r : Refusal). refused r (word ∷ [])) (let z : why ≡ Word = cc in z)

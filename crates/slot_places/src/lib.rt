@@ -4,11 +4,11 @@ ghost use mathlib.Core.Path.{_≡_};
 ghost use Rattle.bank.specs.Calls.{setSize, swapFreeSlots, exchange, rotate};
 ghost use Rattle.slot_answers.specs.Words.{changed};
 ghost use Rattle.slot_answers.specs.Answers.{saidChanged};
-use nibbles::inside;
 use nibbles::inside::Verdict;
 use nibbles::inside::judge;
 use refusal::Refusal;
 use slot_answers::Changed;
+use turns::inside;
 
 // The same positions with another size.
 pub fn set_size(word: u64, width: usize, n: usize) -> Changed

@@ -4,13 +4,13 @@ ghost use mathlib.Core.Path.{_≡_};
 ghost use Rattle.bank.specs.Calls.{fromValue, size, get, back, backAtOffset};
 ghost use Rattle.slot_answers.specs.Words.{changed, asked, madeSorted, madeEmpty};
 ghost use Rattle.slot_answers.specs.Answers.{saidChanged, saidTold, saidMade};
-use nibbles::inside;
 use nibbles::inside::Verdict;
 use nibbles::inside::judge;
 use refusal::Refusal;
 use slot_answers::Changed;
 use slot_answers::Made;
 use slot_answers::Told;
+use turns::inside;
 
 // The word with no slot in use: slot 0 at the back goes out first.
 pub fn empty(width: usize) -> Made

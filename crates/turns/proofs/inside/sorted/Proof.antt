@@ -3,10 +3,10 @@ use mathlib.Core.Path.{_∙_}
 use Prim.Native.Nat.{_-_}
 use native.Mathlib.Omega.{arith}
 use borrow.Author.Needs.{needs}
 use Rattle.nibbles.proofs.Nibbles.{low-lt, wider, join-lt}
-use Rattle.nibbles.proofs.Words.{sorted-here}
-use Rattle.nibbles.proofs.inside.sorted.Statement.{statement}
-use Rattle.nibbles.proofs.inside.sorted.Tie as tie
+use Rattle.turns.proofs.Words.{sorted-here}
+use Rattle.turns.proofs.inside.sorted.Statement.{statement}
+use Rattle.turns.proofs.inside.sorted.Tie as tie
 
 join-requires : tie.Need-join-requires
 join-requires c κs =

@@ -2,9 +2,10 @@
 use Prim.Native.Nat.{_-_, _+_}
 use native.Mathlib.Omega.{arith}
 use borrow.Author.Needs.{needs}
-use Rattle.nibbles.proofs.Nibbles.{low-lt, high-lt, join-lt, pack-turned}
-use Rattle.nibbles.proofs.inside.turn.Statement.{statement}
-use Rattle.nibbles.proofs.inside.turn.Tie as tie
+use Rattle.nibbles.proofs.Nibbles.{low-lt, high-lt, join-lt}
+use Rattle.turns.proofs.Moves.{pack-turned}
+use Rattle.turns.proofs.inside.turn.Statement.{statement}
+use Rattle.turns.proofs.inside.turn.Tie as tie
 
 join-requires : tie.Need-join-requires
 join-requires c κs =

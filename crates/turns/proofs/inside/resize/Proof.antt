@@ -1,8 +1,8 @@
 -- `inside::resize` meets its contract. Assumes nothing.
 use borrow.Author.Needs.{needs}
-use Rattle.nibbles.proofs.Words.{resized-here}
-use Rattle.nibbles.proofs.inside.resize.Statement.{statement}
-use Rattle.nibbles.proofs.inside.resize.Tie as tie
+use Rattle.turns.proofs.Words.{resized-here}
+use Rattle.turns.proofs.inside.resize.Statement.{statement}
+use Rattle.turns.proofs.inside.resize.Tie as tie
 
 returns : tie.Need-returns
 returns c = rw (c .join .ensures, c .before .high .ensures) (resized-here _ _ (c .before .before .pre .1) _)

@@ -3,10 +3,10 @@ use mathlib.Core.Path.{_∙_}
 use Prim.Native.Nat.{_+_, _-_}
 use native.Mathlib.Omega.{arith}
 use borrow.Author.Needs.{needs}
 use Rattle.nibbles.proofs.Nibbles.{low-lt, high-lt, join-lt, wider}
-use Rattle.nibbles.proofs.Words.{inserted-here, next-size-lt}
-use Rattle.nibbles.proofs.inside.inserted.Statement.{statement}
-use Rattle.nibbles.proofs.inside.inserted.Tie as tie
+use Rattle.turns.proofs.Words.{inserted-here, next-size-lt}
+use Rattle.turns.proofs.inside.inserted.Statement.{statement}
+use Rattle.turns.proofs.inside.inserted.Tie as tie
 
 join-requires : tie.Need-join-requires
 join-requires c κs =

@@ -2,10 +2,11 @@
 use Prim.Native.Nat.{_/_}
 use native.Mathlib.Omega.{arith}
 use borrow.Author.Needs.{needs}
-use Rattle.nibbles.proofs.Nibbles.{put-lt, wider}
-use Rattle.nibbles.proofs.Words.{slots-lt, swapped-here, moved-here}
-use Rattle.nibbles.proofs.inside.swap.Statement.{statement}
-use Rattle.nibbles.proofs.inside.swap.Tie as tie
+use Rattle.nibbles.proofs.Nibbles.{wider}
+use Rattle.turns.proofs.Moves.{put-lt}
+use Rattle.turns.proofs.Words.{slots-lt, swapped-here, moved-here}
+use Rattle.turns.proofs.inside.swap.Statement.{statement}
+use Rattle.turns.proofs.inside.swap.Tie as tie
 
 put-requires : tie.Need-put-requires
 put-requires c κs =

@@ -2,9 +2,10 @@
 use Prim.Native.Nat.{_-_}
 use native.Mathlib.Omega.{arith}
 use borrow.Author.Needs.{needs}
-use Rattle.nibbles.proofs.Nibbles.{low-lt, high-lt, join-lt, pack-set}
-use Rattle.nibbles.proofs.inside.put.Statement.{statement}
-use Rattle.nibbles.proofs.inside.put.Tie as tie
+use Rattle.nibbles.proofs.Nibbles.{low-lt, high-lt, join-lt}
+use Rattle.turns.proofs.Moves.{pack-set}
+use Rattle.turns.proofs.inside.put.Statement.{statement}
+use Rattle.turns.proofs.inside.put.Tie as tie
 
 join-requires : tie.Need-join-requires
 join-requires c κs =

@@ -5,9 +5,9 @@ use native.Mathlib.Nat.{not-suc-le-zero}
 use native.Mathlib.Omega.{arith}
 use borrow.Author.Count.{below-more}
 use borrow.Author.Needs.{needs}
-use Rattle.nibbles.proofs.Words.{place-here, place-nowhere}
-use Rattle.nibbles.proofs.inside.place.Statement.{statement}
-use Rattle.nibbles.proofs.inside.place.Tie as tie
+use Rattle.turns.proofs.Words.{place-here, place-nowhere}
+use Rattle.turns.proofs.inside.place.Statement.{statement}
+use Rattle.turns.proofs.inside.place.Tie as tie
 
 abbrev Inv-loop : tie.InvT-loop
 Inv-loop word width slot size i₀ i = (i ≤ size) × ((k : ℕ) → k < i → word / 2 ^ (4 * (k + 1)) % 16 ≡ slot → ⊥)

@@ -1,10 +1,11 @@
 -- `inside::moved` meets its contract. Assumes nothing.
 use native.Mathlib.Omega.{arith}
 use borrow.Author.Needs.{needs}
-use Rattle.nibbles.proofs.Nibbles.{turned-lt, wider}
-use Rattle.nibbles.proofs.Words.{slots-lt, moved-here}
-use Rattle.nibbles.proofs.inside.moved.Statement.{statement}
-use Rattle.nibbles.proofs.inside.moved.Tie as tie
+use Rattle.nibbles.proofs.Nibbles.{wider}
+use Rattle.turns.proofs.Moves.{turned-lt}
+use Rattle.turns.proofs.Words.{slots-lt, moved-here}
+use Rattle.turns.proofs.inside.moved.Statement.{statement}
+use Rattle.turns.proofs.inside.moved.Tie as tie
 
 turn-requires : tie.Need-turn-requires
 turn-requires c κs =

@@ -1,0 +1,167 @@
+-- Moves of a bank in a word: its size, its positions, and the sorted word, by masks and shifts. Assumes nothing.
+use mathlib.Core.Path.{_≡_, sym, ap, ap₂, _∙_, subst}
+use mathlib.Core.List.{List, _∷_, _++_, reverse, reverse-append}
+use Prim.Native.Nat.{ℕ, _+_, _-_, _*_, _/_, _%_, _^_, _≤_, _<_}
+use native.Mathlib.Nat.{mod-lt, zero-lt-suc, zero-add, mul-assoc}
+use native.Mathlib.Numerals.{add-one}
+use native.Mathlib.Omega.{arith}
+use lib.ListN.{length, getD, take, set, length-reverse}
+use lib.Seq.{take-at, drop-at, length-take-le, getD-take}
+use lib.Pow.{shr-lt, shr-shr, pow-pos, field, mod-mod-pow, mod-pow-add}
+use Rattle.bank.specs.Lists.{swapped, part, up}
+use Rattle.bank.specs.Bank.{sorted, insertedFromBack, resized, placeInUse}
+use Rattle.bank.proofs.Counts.{place-at, place-none}
+use Rattle.bank.proofs.Sorted.{length-up, up-append, take-up, sorted-slots, sorted-size}
+use Rattle.nibbles.specs.Nibbles.{pack, nibbles}
+use Rattle.nibbles.specs.Words.{bankOf, wordOf}
+use Rattle.nibbles.proofs.Nibbles.{pow-step, length-nibbles, getD-nibbles, take-nibbles, pack-append, pack-nibbles, pack-whole, nibbles-pack}
+use Rattle.nibbles.proofs.Words.{slot-here}
+use Rattle.turns.proofs.Moves.{part-nibbles, pack-inserted, small-set, length-put}
+
+-- ---- reading a word
+
+pub slots-lt : (w word : ℕ) → word < 2 ^ (4 * (w + 1)) → word / 16 < 2 ^ (4 * w)
+slots-lt w word h = shr-lt (4 * w) 4 (subst (λ (n : ℕ). word < 2 ^ n) (let e : 4 * (w + 1) ≡ 4 * w + 4 = omega arith in e) h)
+
+-- the position in use that holds a slot, or the size: i positions are passed
+module _ (w word slot : ℕ) (h : word % 16 ≤ w) where
+  in-use-at : (k : ℕ) → k < word % 16 → getD (take (word % 16) (nibbles w (word / 16))) k 0 ≡ word / 2 ^ (4 * (k + 1)) % 16
+  in-use-at k l = getD-take (word % 16) (nibbles w (word / 16)) k 0 l ∙ slot-here w word k (omega arith)
+
+  in-use-length : length (take (word % 16) (nibbles w (word / 16))) ≡ word % 16
+  in-use-length = length-take-le (word % 16) (nibbles w (word / 16)) (omega (arith, length-nibbles w (word / 16)))
+
+  pub place-here : (i : ℕ) → i < word % 16 → ((k : ℕ) → k < i → word / 2 ^ (4 * (k + 1)) % 16 ≡ slot → ⊥)
+      → word / 2 ^ (4 * (i + 1)) % 16 ≡ slot → i ≡ placeInUse slot (bankOf w word)
+  place-here i l f e =
+      place-at slot (take (word % 16) (nibbles w (word / 16))) i (omega (arith, in-use-length))
+      (λ k m q. f k m (sym (in-use-at k (omega arith)) ∙ q))
+      (in-use-at i l ∙ e)
+
+  pub place-nowhere : ((k : ℕ) → k < word % 16 → word / 2 ^ (4 * (k + 1)) % 16 ≡ slot → ⊥)
+      → word % 16 ≡ placeInUse slot (bankOf w word)
+  place-nowhere f =
+      sym in-use-length
+      ∙ place-none slot (take (word % 16) (nibbles w (word / 16)))
+      (λ k l q. let m : k < word % 16 = omega (arith, in-use-length) in f k m (sym (in-use-at k m) ∙ q))
+
+-- ---- moves of a word: the positions packed, and the size below them
+
+-- the size, and the positions below i
+below-at : (w word i : ℕ) → i < w → word % 2 ^ (4 * w) % 2 ^ (4 * (i + 1)) ≡ word / 16 % 2 ^ (4 * i) * 16 + word % 16
+below-at w word i l =
+    ap (λ (n : ℕ). word % 2 ^ n % 2 ^ (4 * (i + 1))) (let e : 4 * w ≡ 4 * (w - 1 - i) + 4 * (i + 1) = omega arith in e)
+    ∙ mod-mod-pow word (4 * (w - 1 - i)) (4 * (i + 1))
+    ∙ ap (λ (n : ℕ). word % 2 ^ n) (let e : 4 * (i + 1) ≡ 4 * i + 4 = omega arith in e)
+    ∙ mod-pow-add word (4 * i) 4
+
+-- one more in use does not reach into the positions
+pub next-size-lt : {kept below : ℕ} (w word i : ℕ) → i < w → word % 16 < 15 → kept ≡ word % 2 ^ (4 * w) → below ≡ kept % 2 ^ (4 * (i + 1))
+    → below + 1 < 2 ^ (4 * (i + 1))
+next-size-lt {kept} {below} w word i l m e d =
+    let b : below ≡ word / 16 % 2 ^ (4 * i) * 16 + word % 16 = d ∙ ap (λ (x : ℕ). x % 2 ^ (4 * (i + 1))) e ∙ below-at w word i l in
+    let p : 2 ^ (4 * (i + 1)) ≡ 2 ^ (4 * i) * 16 = ap (λ (k : ℕ). 2 ^ (4 * k)) (add-one i) ∙ pow-step i in
+    omega (arith, mod-lt (word / 16) (pow-pos (4 * i)))
+
+module _ (w word : ℕ) (h : word < 2 ^ (4 * (w + 1))) where
+  pub resized-here : (n : ℕ) → word / 16 * 16 + n ≡ wordOf (resized n (bankOf w word))
+  unfolding pack
+  resized-here n = rw (pack-whole w (word / 16) (slots-lt w word h))
+
+  inserted-slots : (i : ℕ) → i < w
+      → ((word / 16 / 2 ^ (4 * i) % 2 ^ (4 * (w - 1 - i)) * 16 + word / 16 / 2 ^ (4 * (w - 1))) * 2 ^ (4 * i) + word / 16 % 2 ^
+      (4 * i)) * 16
+      + (word % 16 + 1) ≡ wordOf (insertedFromBack i (bankOf w word))
+  unfolding pack
+  inserted-slots i l = rw (length-nibbles, pack-inserted w (word / 16) i l (slots-lt w word h))
+
+  -- the same by the nibbles of the word: those below i, the one at the back, and those from i to the one before it
+  pub inserted-here : (i : ℕ) → i < w
+      → (word % 2 ^ (4 * w) / 2 ^ (4 * (i + 1)) * 16 + word / 2 ^ (4 * w)) * 2 ^ (4 * (i + 1)) +
+      (word % 2 ^ (4 * w) % 2 ^ (4 * (i + 1)) + 1)
+      ≡ wordOf (insertedFromBack i (bankOf w word))
+  inserted-here i l = rw (later, below-at w word i l, top) (grouped _ _ ∙ inserted-slots i l)
+    where
+      whole : 4 * w ≡ 4 * (w - 1 - i) + 4 * (i + 1)
+      whole = omega arith
+
+      later : word % 2 ^ (4 * w) / 2 ^ (4 * (i + 1)) ≡ word / 16 / 2 ^ (4 * i) % 2 ^ (4 * (w - 1 - i))
+      later =
+          ap (λ (n : ℕ). word % 2 ^ n / 2 ^ (4 * (i + 1))) whole
+          ∙ field word (4 * (w - 1 - i)) (4 * (i + 1))
+          ∙ ap (λ (n : ℕ). word / 2 ^ n % 2 ^ (4 * (w - 1 - i))) (let e : 4 * (i + 1) ≡ 4 + 4 * i = omega arith in e)
+          ∙ ap (λ (x : ℕ). x % 2 ^ (4 * (w - 1 - i))) (sym (shr-shr word 4 (4 * i)))
+
+      top : word / 2 ^ (4 * w) ≡ word / 16 / 2 ^ (4 * (w - 1))
+      top =
+          ap (λ (n : ℕ). word / 2 ^ n) (let e : 4 * w ≡ 4 + 4 * (w - 1) = omega arith in e) ∙ sym (shr-shr word 4 (4 * (w - 1)))
+
+      grouped : (x y : ℕ) → x * 2 ^ (4 * (i + 1)) + (y * 16 + word % 16 + 1) ≡ (x * 2 ^ (4 * i) + y) * 16 + (word % 16 + 1)
+      grouped x y =
+          let p : x * 2 ^ (4 * (i + 1)) ≡ x * 2 ^ (4 * i) * 16
+          = ap (λ (k : ℕ). x * 2 ^ (4 * k)) (add-one i) ∙ ap (λ (z : ℕ). x * z) (pow-step i) ∙ sym (mul-assoc x (2 ^ (4 * i)) 16) in
+          omega arith
+
+pub moved-here : {r : ℕ} (n : ℕ) (ps : List ℕ) → r ≡ pack ps → r * 16 + n ≡ pack (n ∷ ps)
+unfolding pack
+moved-here n ps e = rw e
+
+-- two positions set, one after the other
+module _ (w p i j : ℕ) (hi : i < w) (hj : j < w) where
+  pub swapped-here : {r q : ℕ} → q ≡ pack (set (nibbles w p) i (p / 2 ^ (4 * j) % 16))
+      → r ≡ pack (set (nibbles w q) j (p / 2 ^ (4 * i) % 16)) → r ≡ pack (swapped i j (nibbles w p))
+  unfolding swapped
+  swapped-here e d =
+      d
+      ∙ rw (e, getD-nibbles w p i hi, getD-nibbles w p j hj)
+      (ap (λ (l : List ℕ). pack (set l j (p / 2 ^ (4 * i) % 16)))
+      (ap (λ (n : ℕ). nibbles n (pack first)) (sym (length-put w p i (p / 2 ^ (4 * j) % 16)))
+      ∙ nibbles-pack first (small-set w p i (p / 2 ^ (4 * j) % 16) hi (mod-lt (p / 2 ^ (4 * j)) (zero-lt-suc 15)))))
+    where
+      first : List ℕ
+      first = set (nibbles w p) i (p / 2 ^ (4 * j) % 16)
+
+-- ---- the sorted word
+
+-- 14 down to 0, and the part of it that is falling from w-1 to n
+falling : (w n : ℕ) → w ≤ 15 → n ≤ w → nibbles (w - n) (0x012_3456_789A_BCDE / 2 ^ (4 * (15 - w))) ≡ reverse (up n (w - n))
+unfolding nibbles up
+falling w n h l =
+    ap (λ (k : ℕ). nibbles k (0x012_3456_789A_BCDE / 2 ^ (4 * (15 - w)))) (let e : w - n ≡ 15 - n - (15 - w) = omega arith in e)
+    ∙ sym (part-nibbles (15 - w) (15 - n) 15 0x012_3456_789A_BCDE (omega arith) (omega arith))
+    ∙ ap (part (15 - w) (15 - n)) runs
+    ∙ ap (take (15 - n - (15 - w))) (drop-at (reverse (up w (15 - w))) (reverse (up n (w - n)) ++ reverse (up 0 n)) (15 - w)
+    (length-reverse (up w (15 - w)) ∙ length-up w (15 - w)))
+    ∙ take-at (reverse (up n (w - n))) (reverse (up 0 n)) (15 - n - (15 - w))
+    (length-reverse (up n (w - n)) ∙ length-up n (w - n) ∙ (let e : w - n ≡ 15 - n - (15 - w) = omega arith in e))
+  where
+    runs : reverse (up 0 15) ≡ reverse (up w (15 - w)) ++ (reverse (up n (w - n)) ++ reverse (up 0 n))
+    runs =
+        ap reverse
+        (ap (up 0) (let e : 15 ≡ w + (15 - w) = omega arith in e)
+        ∙ up-append 0 w (15 - w)
+        ∙ ap₂ (λ (k s : ℕ). up 0 k ++ up s (15 - w)) (let e : w ≡ n + (w - n) = omega arith in e) (zero-add w))
+        ∙ reverse-append (up 0 (n + (w - n))) (up w (15 - w))
+        ∙ ap (λ (l : List ℕ). reverse (up w (15 - w)) ++ l)
+        (ap reverse (up-append 0 n (w - n) ∙ ap (λ (s : ℕ). up 0 n ++ up s (w - n)) (zero-add n)) ∙ reverse-append (up 0 n) (up n (w - n)))
+
+rising : (n : ℕ) → n ≤ 16 → up 0 n ≡ nibbles n 0xFEDC_BA98_7654_3210
+unfolding nibbles up
+rising n h = sym (take-up 0 n 16 h) ∙ take-nibbles n 16 0xFEDC_BA98_7654_3210 h
+
+pub sorted-here : (w n : ℕ) → w ≤ 15 → n ≤ w
+    → (0x012_3456_789A_BCDE / 2 ^ (4 * (15 - w)) % 2 ^ (4 * (w - n)) * 2 ^ (4 * n) + 0xFEDC_BA98_7654_3210 % 2 ^ (4 * n)) * 16 + n
+    ≡ wordOf (sorted w n)
+unfolding pack
+sorted-here w n h l =
+    rw (
+      sorted-size w n l,
+      sorted-slots w n l,
+      pack-append,
+      length-up,
+      ← falling w n h l,
+      pack-nibbles,
+      rising n
+          (omega arith),
+      pack-nibbles,
+    )
