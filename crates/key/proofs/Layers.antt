@@ -1,7 +1,7 @@
 -- Keys of up to 256 bytes compare, layer by layer, as their bytes do. Assumes nothing.
 use Prim.Native.Nat.{ℕ, zero, suc, _+_, _-_, _*_, _≤_, _<_, Ordering, Ordering·lt, Ordering·eq, Ordering·gt}
 use mathlib.Core.Path.{_≡_, refl, ap, _∙_}
-use mathlib.Core.Bool.{Bool, true, false, _&&_, _||_}
+use mathlib.Core.Bool.{Bool, true, false, cond, _&&_, _||_}
 use mathlib.Core.List.{List, [], _∷_}
 use native.Mathlib.Omega.{arith}
 use lib.Dec.{ltb, eqb}
@@ -9,9 +9,8 @@ use lib.ListN.{length}
 use borrow.Author.Tests.{lt-ltb, le-leb, eq-eqb, ltb-true}
 use Rattle.order.specs.Bytes.{Bytes, none, more, then, bytewise}
 use Rattle.order.specs.Layer.{ikeyAt, classOf, classAt, atLayer, layered}
-use Rattle.order.specs.Layer as L
 use Rattle.order.proofs.Layer.{layered-bytewise}
-use Rattle.refusal.specs.Answer.{Answer, accepted, pick}
+use Rattle.refusal.specs.Answer.{Answer, accepted}
 use Rattle.ikey.specs.Said.{place, compareKeysSaid}
 use Rattle.key_layer.specs.Keys.{suffixAt, numbersAt, reached, fits, hasSuffix, asked, moved, newSaid, shiftSaid, compareSaid}
 use Rattle.key.specs.Layers.{byLayers, comparedByLayers, further, isEqual}
@@ -49,8 +48,8 @@ module _ (bytes : List ℕ) (s : ℕ) (h : length bytes ≤ 256) (r : reached by
 
 -- one layer: the answer here, or what follows where both are equal and longer
 step : (o : Ordering) (longer : Bool) (rest : Answer) (r : Ordering) → (longer ≡ true → rest ≡ accepted (place r ∷ []))
-    → pick (isEqual (accepted (place o ∷ [])) && longer) rest (accepted (place o ∷ []))
-    ≡ accepted (place (then o (L.pick longer r Ordering·eq)) ∷ [])
+    → cond (isEqual (accepted (place o ∷ [])) && longer) rest (accepted (place o ∷ []))
+    ≡ accepted (place (then o (cond longer r Ordering·eq)) ∷ [])
 step Ordering·lt longer rest r h = refl
 step Ordering·eq true rest r h = h refl
 step Ordering·eq false rest r h = refl

@@ -1,11 +1,11 @@
 -- Two keys compared layer by layer, with the calls of this crate alone: each is made, they are compared at a layer, and while they
 -- are equal there and both longer, both are shifted.
 use Prim.Native.Nat.{ℕ, zero, suc, _-_, _*_}
-use mathlib.Core.Bool.{Bool, _&&_}
+use mathlib.Core.Bool.{Bool, cond, _&&_}
 use mathlib.Core.List.{List, [], _∷_}
 use lib.Dec.{eqb}
 use lib.ListN.{length, getD}
-use Rattle.refusal.specs.Answer.{Answer, accepted, pick}
+use Rattle.refusal.specs.Answer.{Answer, accepted}
 use Rattle.key_layer.specs.Keys.{hasSuffix, newSaid, shiftSaid, compareSaid}
 
 -- the numbers of a key, in the answer that gave it
@@ -35,7 +35,7 @@ isEqual said = eqb (said .number) 0 && eqb (getD (said .values) 0 0) 1
 unfoldable pub byLayers : ℕ → List ℕ → List ℕ → Answer → Answer → Answer
 byLayers zero a b x y = accepted (1 ∷ [])
 byLayers (suc layers) a b x y =
-    pick (isEqual (here a b x y) && (hasSuffix a (shiftsOf x) && hasSuffix b (shiftsOf y)))
+    cond (isEqual (here a b x y) && (hasSuffix a (shiftsOf x) && hasSuffix b (shiftsOf y)))
     (byLayers layers a b (further a x) (further b y)) (here a b x y)
 
 -- from layer 0 on

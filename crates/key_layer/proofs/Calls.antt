@@ -1,7 +1,7 @@
 -- A law for each way in which a call on a key returns. Assumes nothing.
 use Prim.Native.Nat.{ℕ, _+_, _-_, _*_, _/_, _%_, _≤_, _<_, Ordering}
 use mathlib.Core.Path.{_≡_, refl, ap, _∙_}
-use mathlib.Core.Bool.{Bool, true, false}
+use mathlib.Core.Bool.{Bool, true, false, cond}
 use mathlib.Core.List.{List, [], _∷_}
 use native.Mathlib.Omega.{arith}
 use lib.Dec.{ltb}
@@ -13,7 +13,7 @@ use Rattle.refusal.specs.Answer.{Answer, accepted, refused, answered, _unless_}
 use Rattle.refusal.specs.declared.Refusal.the-variants.{Key, Shift}
 use Rattle.ikey.specs.Said.{place}
 use Rattle.key_layer.specs.Said.{truth}
-use Rattle.key_layer.specs.Keys.{numbersAt, fits, asked, moved, allows, shiftable, newSaid, suffixFrom, dataFrom, choose}
+use Rattle.key_layer.specs.Keys.{numbersAt, fits, asked, moved, allows, shiftable, newSaid, suffixFrom, dataFrom}
 use Rattle.ikey.proofs.Ikeys.{rest-of}
 use Rattle.key_layer.proofs.Fitting.{allows-is}
 
@@ -51,7 +51,7 @@ module _ (bytes : List ℕ) (i s p : ℕ) {x : Answer} where
   unfolding asked suffixFrom
   suffix-then other h u w = h ∙ ap (λ (y : Ordering). asked bytes i s p (place y ∷ [])) (u ∙ ap (λ (y : List ℕ). bytewise y other) w) ∙ go (fits bytes i s p)
     where
-      go : (t : Bool) → answered ((7 unless t) ∷ []) (place (bytewise (drop (choose t p (length bytes)) bytes) other) ∷ []) (i ∷ s ∷ p ∷ [])
+      go : (t : Bool) → answered ((7 unless t) ∷ []) (place (bytewise (drop (cond t p (length bytes)) bytes) other) ∷ []) (i ∷ s ∷ p ∷ [])
           ≡ answered ((7 unless t) ∷ []) (place (bytewise (drop p bytes) other) ∷ []) (i ∷ s ∷ p ∷ [])
       go true = refl
       go false = refl

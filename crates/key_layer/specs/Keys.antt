@@ -1,7 +1,7 @@
 -- Keys by value: the caller's bytes and three numbers. What the numbers are at a layer, when they fit, and what each call says.
 use Prim.Native.Nat.{ℕ, zero, suc, _+_, _-_, _*_, _/_, _%_, min}
 use mathlib.Core.Path.{_≡_}
-use mathlib.Core.Bool.{Bool, true, false, _&&_, _||_}
+use mathlib.Core.Bool.{Bool, true, cond, _&&_, _||_}
 use mathlib.Core.List.{List, [], _∷_}
 use lib.Dec.{leb, ltb, eqb}
 use lib.ListN.{length, drop}
@@ -74,16 +74,12 @@ shiftBySaid bytes ikey shifts suffix by =
 abbrev pub unshiftSaid : List ℕ → ℕ → ℕ → ℕ → Answer
 unshiftSaid bytes ikey shifts suffix = moved bytes ikey shifts suffix (ltb 0 shifts) (shifts - 1)
 
-abbrev pub choose : Bool → ℕ → ℕ → ℕ
-choose true a b = a
-choose false a b = b
-
 -- where the part that is handed back starts: for a key that does not fit, at the end
 unfoldable pub suffixFrom : List ℕ → ℕ → ℕ → ℕ → ℕ
-suffixFrom bytes ikey shifts suffix = choose (fits bytes ikey shifts suffix) suffix (length bytes)
+suffixFrom bytes ikey shifts suffix = cond (fits bytes ikey shifts suffix) suffix (length bytes)
 
 unfoldable pub dataFrom : List ℕ → ℕ → ℕ → ℕ → ℕ
-dataFrom bytes ikey shifts suffix = choose (fits bytes ikey shifts suffix) 0 (length bytes)
+dataFrom bytes ikey shifts suffix = cond (fits bytes ikey shifts suffix) 0 (length bytes)
 
 -- r is the caller's own bytes from `start` on: which bytes they are, and where they lie
 abbrev pub IsTail : RefT (List ℕ) → ℕ → RefT (List ℕ) → Type 0

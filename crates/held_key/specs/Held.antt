@@ -1,0 +1,34 @@
+-- A key beside a refusal's number, made of what a plain call says and of the slice that was passed.
+use Prim.Native.Nat.{ℕ}
+use mathlib.Core.List.{List, [], _∷_}
+use lib.ListN.{getD}
+use denote.Ref.{RefT}
+use Rattle.refusal.specs.Answer.{Answer}
+use Rattle.held_key.specs.declared.Numbers.{Numbers}
+use Rattle.held_key.specs.declared.Keyed.{Keyed}
+
+-- the numbers of an answer: its own, and its three values, or 0 where it has none
+abbrev pub numbersIn : Answer → Numbers
+numbersIn said =
+    record {
+      refusal = said .number;
+      ikey = getD (said .values) 0 0;
+      «shift_count» = getD (said .values) 1 0;
+      «suffix_start» = getD (said .values) 2 0;
+    }
+
+-- the key of this slice and these numbers, beside the refusal
+abbrev pub holding : RefT (List ℕ) → Numbers → Keyed
+holding bytes n =
+    record {
+      refusal = n .refusal;
+      key = record { bytes = bytes; ikey = n .ikey; «shift_count» = n .«shift_count»; «suffix_start» = n .«suffix_start» };
+    }
+
+-- what a plain call says, and the same slice: the same bytes, at the same place
+abbrev pub keyedOf : RefT (List ℕ) → Answer → Keyed
+keyedOf bytes said = holding bytes (numbersIn said)
+
+-- a key beside its refusal, by document 01's numbers
+abbrev pub saidKeyed : Keyed → Answer
+saidKeyed r = record { number = r .refusal; values = r .key .ikey ∷ r .key .«shift_count» ∷ r .key .«suffix_start» ∷ [] }
