@@ -10,11 +10,11 @@ use Rattle.refusal.specs.Answer.{accepted, refused}
 use Rattle.refusal.specs.declared.Refusal.the-variants.{Node, Position, Full, Order}
 use Rattle.ikey.specs.Said.{place, saidOrdering}
 use Rattle.ikey.specs.declared.Ordering.{Ordering as Ordered}
-use Rattle.internode.specs.declared.Internode.{Internode}
+use Rattle.internode_places.specs.declared.Internode.{Internode}
 use Rattle.internode.specs.Lists.{rising, insertedAt}
 use Rattle.internode.specs.Node.{good, keysOf, insertPosition, childPlace, inserted, numbers}
 use Rattle.internode.specs.Calls.{findSaid, compareSaid, childSaid, insertSaid}
-use Rattle.internode.proofs.Judgement.{good-n}
+use Rattle.internode_places.proofs.Judgement.{good-n}
 
 -- ---- a node that the judgement refuses
 

@@ -1,11 +1,9 @@
 pub mod Rising
 pub mod Places
 pub mod Inserts
-pub mod Moves
 pub mod Judgement
 pub mod Calls
 pub mod One
-pub mod Parts
 pub mod Splits
 pub mod Laws
 pub mod Halves

@@ -3,12 +3,13 @@ use mathlib.Core.Path.{_≡_, refl, sym, ap, _∙_}
 use mathlib.Core.List.{List, _++_}
 use Prim.Native.Nat.{ℕ}
 use native.Mathlib.Omega.{arith}
-use lib.ListN.{length, getD, take, drop}
+use lib.ListN.{getD, take, drop}
 use lib.Seq.{take-at, drop-at}
 use Rattle.refusal.specs.Answer.{Answer}
 use Rattle.refusal.proofs.Laws.{number-one, number-pos}
 use Rattle.ikey.proofs.One.{no-refusal, same-refusal, same-value, place-one}
-use Rattle.internode.specs.declared.Internode.{Internode}
+use Rattle.internode_places.specs.declared.Internode.{Internode}
+use Rattle.internode_places.proofs.Whole.{Whole}
 use Rattle.internode.specs.declared.Place.{Place}
 use Rattle.internode.specs.declared.Place.the-variants as place-is
 use Rattle.internode.specs.declared.Child.{Child}
@@ -44,11 +45,6 @@ verdict-one verdict-is.Accepted verdict-is.Accepted e = refl
 verdict-one verdict-is.Accepted (verdict-is.Refused w) e = absurd (omega (arith, number-pos w))
 verdict-one (verdict-is.Refused v) verdict-is.Accepted e = absurd (omega (arith, number-pos v))
 verdict-one (verdict-is.Refused v) (verdict-is.Refused w) e = ap verdict-is.Refused (number-one v w e)
-
--- the arrays of an internode are whole, as those of every value of the type are
-pub record Whole (x : Internode) : Type 0 where
-  pub ikeys-15 : length (x .ikeys) ≡ 15
-  pub children-16 : length (x .children) ≡ 16
 
 -- an internode is known by its numbers
 pub node-one : (x y : Internode) → Whole x → Whole y → numbers x ≡ numbers y → x ≡ y

@@ -5,7 +5,7 @@ use lib.Dec.{ltb, leb}
 use lib.ListN.{getD}
 use Rattle.refusal.specs.Answer.{Answer, Rule, _unless_, answered}
 use Rattle.ikey.specs.Said.{place}
-use Rattle.internode.specs.declared.Internode.{Internode}
+use Rattle.internode_places.specs.declared.Internode.{Internode}
 use Rattle.internode.specs.Lists.{rising, insertedAt}
 use Rattle.internode.specs.Node.{keysOf, good, insertPosition, childFor, inserted, numbers}
 

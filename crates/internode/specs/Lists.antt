@@ -1,43 +1,4 @@
--- Lists of ikeys and of children, of any length: their order, places in them, and insertion.
-use Prim.Native.Nat.{ℕ, zero, suc, _+_}
-use mathlib.Core.Bool.{Bool, true, false, _&&_}
-use mathlib.Core.List.{List, [], _∷_, _++_}
-use lib.ListN.{take, drop}
-use lib.Dec.{ltb}
-
--- the first of the list, if it has one, is above k
-abbrev pub below : ℕ → List ℕ → Bool
-below k [] = true
-below k (next ∷ ks) = ltb k next
-
--- strictly rising
-unfoldable pub rising : List ℕ → Bool
-rising [] = true
-rising (k ∷ ks) = below k ks && rising ks
-
-abbrev pub hereOrLater : Bool → ℕ → ℕ
-hereOrLater true later = zero
-hereOrLater false later = suc later
-
--- the first place that passes the test, or the length where none does
-unfoldable pub first : (ℕ → Bool) → List ℕ → ℕ
-first test [] = zero
-first test (k ∷ ks) = hereOrLater (test k) (first test ks)
-
-abbrev pub oneMoreOr : ℕ → Bool → ℕ
-oneMoreOr (suc later) here = suc (suc later)
-oneMoreOr zero true = 1
-oneMoreOr zero false = zero
-
--- the place after the last that passes the test, or 0 where none does
-unfoldable pub afterLast : (ℕ → Bool) → List ℕ → ℕ
-afterLast test [] = zero
-afterLast test (k ∷ ks) = oneMoreOr (afterLast test ks) (test k)
-
--- v goes to place p, and what stood at p and later follows it
-unfoldable pub insertedAt : ℕ → ℕ → List ℕ → List ℕ
-insertedAt p v xs = take p xs ++ v ∷ drop p xs
-
--- v goes to place p among the first n, which move up over what stood at n; every later place stays
-unfoldable pub insertedAmong : ℕ → ℕ → ℕ → List ℕ → List ℕ
-insertedAmong p n v xs = insertedAt p v (take n xs) ++ drop (n + 1) xs
+-- Lists of ikeys and of children, passed on from the crates below: their order, places in them, and insertion.
+pub use Rattle.internode_places.specs.Lists.{below, hereOrLater, oneMoreOr}
+unfoldable pub use Rattle.internode_places.specs.Lists.{rising, first, afterLast, insertedAt}
+unfoldable pub use Rattle.internode_inserts.specs.Insert.{insertedAmong}

@@ -1,18 +1,15 @@
 // An internode by value: n ikeys in strictly rising order and one child more. A node goes in by value; where it is changed
-// it comes back in the answer. Every call judges its node, and refuses by number.
+// it comes back in the answer. Every call judges its node, and refuses by number. The node, its places and what is inserted are
+// passed on from the crates below.
 ghost use mathlib.Core.Path.{_≡_};
 ghost use Rattle.internode.specs.Answers.{saidPlace, saidChild, saidCompared, saidInserted};
 ghost use Rattle.internode.specs.Calls.{findSaid, compareSaid, childSaid, insertSaid};
 use ikey::Ordering;
+pub use internode_inserts::Split;
+pub use internode_places::Internode;
 use refusal::Refusal;
 
 pub mod inside;
-
-pub struct Internode {
-    pub n: usize,
-    pub ikeys: [u64; 15],
-    pub children: [u64; 16],
-}
 
 // A place among the ikeys.
 pub enum Place {
@@ -41,13 +38,6 @@ pub enum Verdict {
 pub struct Inserted {
     pub said: Verdict,
     pub node: Internode,
-}
-
-// The two halves of a full node with one key more, and the key between them.
-pub struct Split {
-    pub left: Internode,
-    pub up: u64,
-    pub right: Internode,
 }
 
 // The first ikey not below the target, or n.

@@ -2,14 +2,13 @@
 use Prim.Native.Nat.{ℕ, zero, suc, _+_, _-_, _≤_, _<_}
 use mathlib.Core.Path.{_≡_, refl, sym, ap, _∙_, subst}
 use mathlib.Core.Logic.{_⊎_, inl, inr}
-use mathlib.Core.Bool.{Bool, true, false, not}
+use mathlib.Core.Bool.{Bool, true, false, cond, not}
 use mathlib.Core.List.{List}
 use native.Mathlib.Omega.{arith}
 use native.Mathlib.Decide.{ℕ-discrete, decLt}
 use lib.Dec.{T, eqb, eqb→eq, eqb-refl, T-not}
 use lib.ListN.{length, getD}
-use Rattle.bank.specs.Bank.{either}
-use Rattle.leaf.specs.declared.Entry.{Entry}
+use Rattle.leaf_entries.specs.declared.Entry.{Entry}
 use Rattle.leaf.specs.Leaf.{none, rank, rising}
 use Rattle.leaf.specs.Cut.{ikeyOf, differs, apart, IsCut, outward, cutOf}
 use Rattle.leaf.proofs.Orders.{rank-lt, rising-weights}
@@ -27,7 +26,7 @@ module _ (test : ℕ → Bool) (m : ℕ) where
     pub nearest : (d : ℕ) → T (test d) → apart c m ≤ apart d m
     pub lower : (d : ℕ) → T (test d) → apart d m ≡ apart c m → c ≤ d
 
-  -- outward from `far`, either the place found is the nearest, or none passes within reach
+  -- outward from `far`, cond the place found is the nearest, or none passes within reach
   found-or-none : (k far : ℕ) → far + k ≤ suc m → Near far → Nearest (far + k) (outward test m far k) ⊎ Near (far + k)
   unfolding outward
   found-or-none zero far h near = inr (λ d l t. near d (omega arith) t)
@@ -57,7 +56,7 @@ module _ (test : ℕ → Bool) (m : ℕ) where
 
       by : (p : Bool) → test (m - far) ≡ p → (q : Bool) → test (m + far) ≡ q
           → (Near (suc far) → Nearest (suc far + k) (outward test m (suc far) k) ⊎ Near (suc far + k))
-          → Nearest (far + suc k) (either p (m - far) (either q (m + far) (outward test m (suc far) k))) ⊎ Near (far + suc k)
+          → Nearest (far + suc k) (cond p (m - far) (cond q (m + far) (outward test m (suc far) k))) ⊎ Near (far + suc k)
       by true e q d rest =
           inl (record {
             passes = subst T (sym e) tt;

@@ -1,14 +1,14 @@
 -- The view of a leaf after each accepted call on its slot word. Assumes nothing.
 use Prim.Native.Nat.{ℕ, suc, _+_, _-_, _/_, _%_, _≤_, _<_}
 use mathlib.Core.Path.{_≡_, refl, sym, ap, ap₂, _∙_}
-use mathlib.Core.Bool.{Bool, true, false}
+use mathlib.Core.Bool.{Bool, true, false, cond}
 use mathlib.Core.List.{List, [], _∷_, _++_}
 use native.Mathlib.Omega.{arith}
 use lib.Dec.{leb, ltb}
 use lib.ListN.{length, getD, take, drop, set, replicate, length-append, length-replicate, length-drop}
 use lib.Seq.{take-at, length-take-le}
 use borrow.Author.Tests.{leb-true, ltb-true, le-leb, lt-ltb}
-use Rattle.refusal.specs.Answer.{Answer, accepted, pick}
+use Rattle.refusal.specs.Answer.{Answer, accepted}
 use Rattle.bank.specs.Bank.{Bank, width, slotAt, insertedFromBack, removed, sorted}
 use Rattle.bank.specs.Calls.{insertFromBack, remove}
 use Rattle.bank.proofs.Moves.{length-turned, once-turned}
@@ -17,7 +17,7 @@ use Rattle.nibbles.specs.Words.{wordOf, validWord}
 use Rattle.permuter.specs.Words.{changed, madeSorted}
 use Rattle.nibbles.proofs.Nibbles.{length-nibbles}
 use Rattle.permuter.proofs.History.{Fit, size-packed, slots-packed, valid-packed, fit-inserted}
-use Rattle.leaf.specs.declared.Entry.{Entry}
+use Rattle.leaf_entries.specs.declared.Entry.{Entry}
 use Rattle.leaf.specs.Leaf.{none, viewed, slotsOf, inOrder, laid, rising}
 use Rattle.leaf.specs.Cut.{cutOf}
 use Rattle.leaf.proofs.Views.{good-word}
@@ -76,9 +76,9 @@ module _ (word i : ℕ) where
       by (validWord 15 word) refl (leb i (word % 16)) (leb-true i (word % 16)) (ltb (word % 16) (width (slotsOf word))) (ltb-true (word % 16) (width (slotsOf word)))
     where
       by : (p : Bool) → validWord 15 word ≡ p → (q : Bool) → (q ≡ true → i ≤ word % 16) → (r : Bool) → (r ≡ true → word % 16 < width (slotsOf word))
-          → pick p
-          (pick q
-          (pick r (accepted (wordOf (insertedFromBack i (slotsOf word)) ∷ back ∷ [])) (record { number = 5; values = word ∷ [] }))
+          → cond p
+          (cond q
+          (cond r (accepted (wordOf (insertedFromBack i (slotsOf word)) ∷ back ∷ [])) (record { number = 5; values = word ∷ [] }))
           (record { number = 4; values = word ∷ [] }))
           (record { number = 2; values = word ∷ [] })
           ≡ accepted (next ∷ slot ∷ [])
@@ -127,8 +127,8 @@ module _ (word i : ℕ) where
   take-told next = by (validWord 15 word) refl (ltb i (word % 16)) (ltb-true i (word % 16))
     where
       by : (p : Bool) → validWord 15 word ≡ p → (q : Bool) → (q ≡ true → i < word % 16)
-          → pick p
-          (pick q (accepted (wordOf (removed i (slotsOf word)) ∷ [])) (record { number = 4; values = word ∷ [] }))
+          → cond p
+          (cond q (accepted (wordOf (removed i (slotsOf word)) ∷ [])) (record { number = 4; values = word ∷ [] }))
           (record { number = 2; values = word ∷ [] })
           ≡ accepted (next ∷ [])
           → Taken next

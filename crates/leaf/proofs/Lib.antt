@@ -1,7 +1,6 @@
 pub mod Lists
 pub mod Orders
 pub mod Views
-pub mod Judged
 pub mod Searches
 pub mod One
 pub mod Rules

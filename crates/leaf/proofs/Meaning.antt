@@ -3,7 +3,7 @@
 use Prim.Native.Nat.{ℕ, _+_, _*_, _≤_, _<_, Ordering, Ordering·lt, Ordering·eq, Ordering·gt}
 use mathlib.Core.Path.{_≡_, refl, sym, ap, _∙_}
 use mathlib.Core.Logic.{_⊎_, inl, inr}
-use mathlib.Core.Bool.{Bool, true, false, not, _&&_}
+use mathlib.Core.Bool.{Bool, true, false, cond, not, _&&_}
 use mathlib.Core.List.{List, [], _∷_}
 use native.Mathlib.Omega.{arith}
 use native.Mathlib.Decide.{decLt}
@@ -13,14 +13,13 @@ use borrow.Author.Tests.{ltb-true, ltb-false, eqb-true, eqb-false}
 use Rattle.bank.specs.Bank.{slotAt}
 use Rattle.order.specs.Bytes.{bytewise}
 use Rattle.order.proofs.Bytes.{bytewise-same, bytewise-exact}
-use Rattle.leaf.specs.declared.Entry.{Entry}
+use Rattle.leaf_entries.specs.declared.Entry.{Entry}
 use Rattle.leaf.specs.Leaf.{none, slotsOf, inOrder, against, isLess, rising}
 use Rattle.leaf.specs.Search.{
   found,
   conflict,
   layer,
   notFound,
-  either,
   storedSuffix,
   sameBytes,
   metWith,
@@ -118,7 +117,7 @@ module _ (cells bytes key : List ℕ) (start : ℕ) (e : Entry) (slot : ℕ) whe
     where
       by : (p q : Bool) (o : Ordering) → (p ≡ false → e .class ≡ 10 → ⊥) → (q ≡ false → e .class ≡ 9 → ⊥)
           → (o ≡ Ordering·eq → storedSuffix cells bytes (e .at) start ≡ drop start key)
-          → either p (layer slot) (either (q && not (isEq o)) (conflict slot) (found slot)) ≡ found slot
+          → cond p (layer slot) (cond (q && not (isEq o)) (conflict slot) (found slot)) ≡ found slot
           → (e .class ≡ 10 → ⊥) × (e .class ≡ 9 → storedSuffix cells bytes (e .at) start ≡ drop start key)
       by true q o f g h d = absurd (let z : _≡_ {A = ℕ} 2 0 = ap (λ (l : List ℕ). getD l 0 0) d in omega arith)
       by false true Ordering·lt f g h d = absurd (let z : _≡_ {A = ℕ} 1 0 = ap (λ (l : List ℕ). getD l 0 0) d in omega arith)
@@ -135,7 +134,7 @@ module _ (cells bytes key : List ℕ) (start : ℕ) (e : Entry) (slot : ℕ) whe
       (λ q. ap (λ (l : List ℕ). bytewise (storedSuffix cells bytes (e .at) start) l) (sym q) ∙ bytewise-same (storedSuffix cells bytes (e .at) start))
     where
       by : (p q : Bool) (o : Ordering) → (q ≡ true → e .class ≡ 9) → (storedSuffix cells bytes (e .at) start ≡ drop start key → o ≡ Ordering·eq)
-          → either p (layer slot) (either (q && not (isEq o)) (conflict slot) (found slot)) ≡ conflict slot
+          → cond p (layer slot) (cond (q && not (isEq o)) (conflict slot) (found slot)) ≡ conflict slot
           → (e .class ≡ 9) × (storedSuffix cells bytes (e .at) start ≡ drop start key → ⊥)
       by true q o g h d = absurd (let z : _≡_ {A = ℕ} 2 1 = ap (λ (l : List ℕ). getD l 0 0) d in omega arith)
       by false true Ordering·lt g h d = (g refl, λ n. let w = h n in let z : _≡_ {A = ℕ} 0 1 = cc in omega arith)
@@ -149,7 +148,7 @@ module _ (cells bytes key : List ℕ) (start : ℕ) (e : Entry) (slot : ℕ) whe
   layer-means =
       by (eqb (e .class) 10) (eqb (e .class) 9 && not (sameBytes (storedSuffix cells bytes (e .at) start) (drop start key))) (eqb-true (e .class) 10)
     where
-      by : (p q : Bool) → (p ≡ true → e .class ≡ 10) → either p (layer slot) (either q (conflict slot) (found slot)) ≡ layer slot → e .class ≡ 10
+      by : (p q : Bool) → (p ≡ true → e .class ≡ 10) → cond p (layer slot) (cond q (conflict slot) (found slot)) ≡ layer slot → e .class ≡ 10
       by true q g d = g refl
       by false true g d = absurd (let z : _≡_ {A = ℕ} 1 2 = ap (λ (l : List ℕ). getD l 0 0) d in omega arith)
       by false false g d = absurd (let z : _≡_ {A = ℕ} 0 2 = ap (λ (l : List ℕ). getD l 0 0) d in omega arith)
@@ -160,7 +159,7 @@ module _ (cells bytes key : List ℕ) (start : ℕ) (e : Entry) (slot : ℕ) whe
   met-slot k n =
       by (eqb (e .class) 10) (eqb (e .class) 9 && not (sameBytes (storedSuffix cells bytes (e .at) start) (drop start key)))
     where
-      by : (p q : Bool) → either p (layer slot) (either q (conflict slot) (found slot)) ≡ k ∷ n ∷ [] → (k < 3) × (n ≡ slot)
+      by : (p q : Bool) → cond p (layer slot) (cond q (conflict slot) (found slot)) ≡ k ∷ n ∷ [] → (k < 3) × (n ≡ slot)
       by true q d = (omega (arith, ap (λ (l : List ℕ). getD l 0 0) d), sym (ap (λ (l : List ℕ). getD l 1 0) d))
       by false true d = (omega (arith, ap (λ (l : List ℕ). getD l 0 0) d), sym (ap (λ (l : List ℕ). getD l 1 0) d))
       by false false d = (omega (arith, ap (λ (l : List ℕ). getD l 0 0) d), sym (ap (λ (l : List ℕ). getD l 1 0) d))
@@ -188,7 +187,7 @@ module _ (word : ℕ) (entries : List Entry) (cells bytes key : List ℕ) (ikey 
   met-means k slot l = by (ltb place (length view)) (ltb-true place (length view))
     where
       by : (b : Bool) → (b ≡ true → place < length view)
-          → either b there (notFound (placeGreater ikey class view)) ≡ k ∷ slot ∷ []
+          → cond b there (notFound (placeGreater ikey class view)) ≡ k ∷ slot ∷ []
           → MetAt word entries cells bytes key ikey class start k slot
       by true f d =
           let s = met-slot cells bytes key start (getD view place none) (slotAt place (slotsOf word)) k slot d .1 in
@@ -209,7 +208,7 @@ module _ (word : ℕ) (entries : List Entry) (cells bytes key : List ℕ) (ikey 
     where
       by : (b : Bool) → (b ≡ false → length view ≤ place)
           → Meets ikey class view place ⊎ Belongs ikey class view (placeGreater ikey class view)
-          → either b there (notFound (placeGreater ikey class view)) ≡ notFound position
+          → cond b there (notFound (placeGreater ikey class view)) ≡ notFound position
           → Belongs ikey class view position
       by true f w d =
           absurd (omega (arith, met-slot cells bytes key start (getD view place none) (slotAt place (slotsOf word)) 3 position d .0))

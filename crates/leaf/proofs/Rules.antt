@@ -13,7 +13,7 @@ use Rattle.bank.specs.Bank.{Bank, width, slotAt, insertedFromBack, removed, sor
 use Rattle.bank.proofs.Counts.{count-same, count-other, count-append, count-at, once, slot-lt}
 use Rattle.bank.proofs.Moves.{drop-take, length-part, part-one}
 use Rattle.bank.proofs.Sorted.{sorted-slots, sorted-size, length-up}
-use Rattle.leaf.specs.declared.Entry.{Entry}
+use Rattle.leaf_entries.specs.declared.Entry.{Entry}
 use Rattle.leaf.specs.Leaf.{none, inUse, viewed}
 use Rattle.leaf.proofs.Lists.{map-append, map-take, map-drop}
 

@@ -15,7 +15,7 @@ use Rattle.order.proofs.Compare.{compare-eq}
 use Rattle.order.proofs.Layer.{layer-at}
 use Rattle.key.specs.Keys.{fits}
 use Rattle.key.proofs.Fitting.{fitting}
-use Rattle.leaf.specs.declared.Entry.{Entry}
+use Rattle.leaf_entries.specs.declared.Entry.{Entry}
 use Rattle.leaf.specs.Leaf.{none, rank}
 use Rattle.leaf.specs.Search.{storedKey, storedSuffix, Belongs, Says}
 use Rattle.leaf.proofs.Meaning.{never-both}

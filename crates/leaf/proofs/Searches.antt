@@ -20,8 +20,9 @@ use Rattle.ikey.specs.declared.Ordering.the-variants.{Less, Equal, Greater}
 use Rattle.ikey.specs.Said.{orderOf}
 use Rattle.key.specs.Keys.{fits}
 use Rattle.key.proofs.Fitting.{suffix-within}
+use Rattle.lent_cells.proofs.Cells.{lent-right, cell-right}
 pub use Rattle.lent_cells.proofs.Cells.{suffix-less, suffix-equal, suffix-greater}
-use Rattle.leaf.specs.declared.Entry.{Entry}
+use Rattle.leaf_entries.specs.declared.Entry.{Entry}
 use Rattle.leaf.specs.Leaf.{none, slotsOf, inOrder, against, isLess, lentRight, Lent, Cell, ofKind, goodEntries}
 use Rattle.leaf.specs.Search.{
   found,
@@ -42,7 +43,7 @@ use Rattle.leaf.specs.Search.{
 use Rattle.leaf.proofs.Lists.{every-at, first-at, first-none}
 use Rattle.leaf.proofs.Orders.{all-above}
 use Rattle.leaf.proofs.Views.{length-in-order, entry-in-order}
-use Rattle.leaf.proofs.Judged.{lent-right, cell-right, kind-has-cell, good-parts}
+use Rattle.leaf_entries.proofs.Judged.{kind-has-cell, good-parts}
 
 -- ---- the entry that has the key's ikey and class
 

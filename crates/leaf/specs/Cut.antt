@@ -1,12 +1,11 @@
 -- The cut of sixteen entries.
 use Prim.Native.Nat.{ℕ, zero, suc, _+_, _-_, _≤_}
 use mathlib.Core.Path.{_≡_}
-use mathlib.Core.Bool.{Bool, not}
+use mathlib.Core.Bool.{Bool, cond, not}
 use mathlib.Core.List.{List}
 use lib.Dec.{T, eqb}
 use lib.ListN.{getD}
-use Rattle.bank.specs.Bank.{either}
-use Rattle.leaf.specs.declared.Entry.{Entry}
+use Rattle.leaf_entries.specs.declared.Entry.{Entry}
 use Rattle.leaf.specs.Leaf.{none}
 
 -- the ikey at a position
@@ -34,7 +33,7 @@ pub record IsCut (es : List Entry) (c : ℕ) : Type 0 where
 unfoldable pub outward : (ℕ → Bool) → ℕ → ℕ → ℕ → ℕ
 outward test m far zero = m
 outward test m far (suc k) =
-    either (test (m - far)) (m - far) (either (test (m + far)) (m + far) (outward test m (suc far) k))
+    cond (test (m - far)) (m - far) (cond (test (m + far)) (m + far) (outward test m (suc far) k))
 
 -- the cut by computation: 8, then 7 and 9, then 6 and 10, up to 1 and 15
 abbrev pub cutOf : List Entry → ℕ

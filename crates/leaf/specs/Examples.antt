@@ -10,7 +10,7 @@ use Rattle.nibbles.specs.Nibbles.{pack, nibbles}
 use Rattle.nibbles.specs.Words.{wordOf, validWord}
 use Rattle.order.specs.Layer.{bigEndian, ikeyAt}
 use Rattle.key.specs.Keys.{suffixAt, fits, reached}
-use Rattle.leaf.specs.declared.Entry.{Entry}
+use Rattle.leaf_entries.specs.declared.Entry.{Entry}
 use Rattle.leaf.specs.Lists.{every, firstWhere}
 use Rattle.leaf.specs.Leaf.{viewed, laid, rising, lentRight, cellRight, ofKind, goodEntries}
 use Rattle.leaf.specs.Search.{found, notFound, metWith, outcome, searchSaid}

@@ -1,7 +1,7 @@
 -- The search of a leaf: what it answers, by document 01's numbers.
 use Prim.Native.Nat.{ℕ, _*_, _≤_, _<_, Ordering·lt, Ordering·gt}
 use mathlib.Core.Path.{_≡_}
-use mathlib.Core.Bool.{Bool, true, false, not, _&&_, _||_}
+use mathlib.Core.Bool.{true, false, cond, not, _&&_, _||_}
 use mathlib.Core.List.{List, [], _∷_}
 use lib.Dec.{ltb, eqb, isEq}
 use lib.ListN.{length, getD, drop}
@@ -13,7 +13,7 @@ use Rattle.order.specs.Layer.{ikeyAt, classAt}
 use Rattle.key.specs.Keys.{fits}
 pub use Rattle.lent_cells.specs.Cells.{storedKey, sameBytes}
 unfoldable pub use Rattle.lent_cells.specs.Cells.{storedSuffix}
-use Rattle.leaf.specs.declared.Entry.{Entry}
+use Rattle.leaf_entries.specs.declared.Entry.{Entry}
 use Rattle.leaf.specs.declared.Searched.{Searched}
 use Rattle.leaf.specs.declared.Searched.the-variants.{Found, Conflict, Layer, NotFound, Refused}
 use Rattle.leaf.specs.Lists.{firstWhere}
@@ -40,16 +40,12 @@ saidSearched (Layer slot) = accepted (layer slot)
 saidSearched (NotFound position) = accepted (notFound position)
 saidSearched (Refused why word) = refused why (word ∷ [])
 
-abbrev pub either : Bool → List ℕ → List ℕ → List ℕ
-either true a b = a
-either false a b = b
-
 -- the outcome at an entry with the key's ikey and class: a link is a layer; of two longer ones the suffixes decide between
 -- found and conflict; with up to 8 bytes ikey and length say all
 unfoldable pub metWith : List ℕ → List ℕ → List ℕ → ℕ → Entry → ℕ → List ℕ
 metWith cells bytes key start e slot =
-    either (eqb (e .class) 10) (layer slot)
-    (either (eqb (e .class) 9 && not (sameBytes (storedSuffix cells bytes (e .at) start) (drop start key)))
+    cond (eqb (e .class) 10) (layer slot)
+    (cond (eqb (e .class) 9 && not (sameBytes (storedSuffix cells bytes (e .at) start) (drop start key)))
     (conflict slot) (found slot))
 
 -- the first position whose entry has this ikey and class
@@ -66,7 +62,7 @@ unfoldable pub outcome : ℕ → List Entry → List ℕ → List ℕ → List �
 outcome word entries cells bytes key ikey class start =
     let es = inOrder word entries in
     let p = placeEqual ikey class es in
-    either (ltb p (length es)) (metWith cells bytes key start (getD es p none) (slotAt p (slotsOf word)))
+    cond (ltb p (length es)) (metWith cells bytes key start (getD es p none) (slotAt p (slotsOf word)))
     (notFound (placeGreater ikey class es))
 
 -- a position whose entry has this ikey and class

@@ -1,133 +1,30 @@
-// The judgement of a leaf and of what is lent, and the scan. For the search and for the index, which knows what it holds: what a
-// caller must know stands in `requires`.
+// The scan, and what is answered with right and with wrong lent lengths; the judgement of a leaf and of what is lent is passed on from
+// the crates below. What a caller must know stands in `requires`.
 ghost use mathlib.Core.Path.{_≡_};
 ghost use mathlib.Core.Bool.{true};
-ghost use mathlib.Core.List.{[], _∷_};
-ghost use Prim.Native.Nat.{_%_, _*_, _<_, _≤_};
-ghost use lib.ListN.{length, getD};
-ghost use Rattle.refusal.specs.Answer.{accepted, answered, _unless_};
-ghost use Rattle.bank.specs.Bank.{slotAt};
+ghost use Prim.Native.Nat.{_*_, _≤_};
+ghost use lib.ListN.{length};
+ghost use Rattle.refusal.specs.Answer.{accepted};
 ghost use Rattle.nibbles.specs.Words.{validWord};
-ghost use Rattle.order.specs.Layer.{classOf, classAt};
-ghost use Rattle.ikey.specs.Said.{orderOf};
-ghost use Rattle.key.specs.Keys.{fits};
-ghost use Rattle.leaf.specs.Lists.{every};
-ghost use Rattle.leaf.specs.Leaf.{slotsOf, inOrder, against, less, rising, lentRight, ofKind, goodEntries};
+ghost use Rattle.order.specs.Layer.{classAt};
+ghost use Rattle.leaf.specs.Leaf.{lentRight, ofKind};
 ghost use Rattle.leaf.specs.Search.{saidSearched, metWith, outcome, unlentSaid, lentSaid, Searchable};
 use crate::Entry;
 use crate::Searched;
 use ikey::Ordering;
-pub use lent_cells::are_lent;
-pub use lent_cells::is_cell;
-pub use lent_cells::is_suffix;
-use permuter::Changed;
+pub use leaf_entries::inside::are_good;
+pub use leaf_entries::inside::are_of_kind;
+pub use leaf_entries::inside::are_rising;
+pub use leaf_entries::inside::compare;
+pub use leaf_entries::inside::is_less;
+pub use leaf_entries::inside::is_of_kind;
+pub use leaf_entries::inside::is_valid;
+pub use leaf_entries::inside::size_of;
+pub use leaf_entries::inside::slot_at;
+pub use lent_cells::inside::are_lent;
+pub use lent_cells::inside::is_cell;
+pub use lent_cells::inside::is_suffix;
 use refusal::Refusal;
-
-// The rule of a leaf's slot word.
-pub fn is_valid(word: u64) -> bool
-    ensures { λ r. ⌜ r ≡ validWord 15 word ⌝ }
-{
-    let Changed::Word(_) = permuter::from_value(word, 15) else {
-        return false;
-    };
-    true
-}
-
-// How many slots are in use.
-pub fn size_of(word: u64) -> usize
-    ensures { λ r. ⌜ r ≡ word % 16 ⌝ }
-{
-    (word % 16) as usize
-}
-
-// The slot at a position in use.
-pub fn slot_at(word: u64, i: usize) -> usize
-    requires { ⌜ (validWord 15 word ≡ true) × (i < word % 16) ⌝ }
-    ensures { λ r. ⌜ (r ≡ slotAt i (slotsOf word)) × (r < 15) ⌝ }
-{
-    ((word >> (4 * (i + 1))) % 16) as usize
-}
-
-// An entry of the kind that a leaf holds.
-pub fn is_of_kind(cells: &[u64], e: Entry) -> bool
-    ensures { λ r. ⌜ r ≡ ofKind (now (cells .entry)) e ⌝ }
-{
-    if 10 < e.class {
-        return false;
-    }
-    if e.class == 10 {
-        return true;
-    }
-    is_cell(cells, e.at)
-}
-
-// Every entry in use is of the kind that a leaf holds.
-pub fn are_of_kind(word: u64, entries: [Entry; 15], cells: &[u64]) -> bool
-    requires { ⌜ validWord 15 word ≡ true ⌝ }
-    ensures { λ r. ⌜ r ≡ every (ofKind (now (cells .entry))) (inOrder word entries) ⌝ }
-{
-    let size = size_of(word);
-    let mut i: usize = 0;
-    while i < size {
-        let slot = slot_at(word, i);
-        let e = entries[slot];
-        if !is_of_kind(cells, e) {
-            return false;
-        }
-        i += 1;
-    }
-    true
-}
-
-// An ikey and a length against an entry, at one layer.
-pub fn compare(ikey: u64, length: usize, e: Entry) -> Ordering
-    ensures { λ r. ⌜ orderOf r ≡ against ikey (classOf length) e ⌝ }
-{
-    ikey::inside::at_layer(ikey, length, e.ikey, e.class as usize)
-}
-
-// The first entry is less than the second.
-pub fn is_less(e: Entry, d: Entry) -> bool
-    ensures { λ r. ⌜ r ≡ less e d ⌝ }
-{
-    let order = compare(e.ikey, e.class as usize, d);
-    match order {
-        Ordering::Less => true,
-        Ordering::Equal => false,
-        Ordering::Greater => false,
-    }
-}
-
-// The entries in use are strictly rising.
-pub fn are_rising(word: u64, entries: [Entry; 15]) -> bool
-    requires { ⌜ validWord 15 word ≡ true ⌝ }
-    ensures { λ r. ⌜ r ≡ rising (inOrder word entries) ⌝ }
-{
-    let size = size_of(word);
-    let mut i: usize = 1;
-    while i < size {
-        let before = slot_at(word, i - 1);
-        let slot = slot_at(word, i);
-        let e = entries[before];
-        let d = entries[slot];
-        if !is_less(e, d) {
-            return false;
-        }
-        i += 1;
-    }
-    true
-}
-
-// The entries in use are as a leaf holds them.
-pub fn are_good(word: u64, entries: [Entry; 15], cells: &[u64]) -> bool
-    requires { ⌜ validWord 15 word ≡ true ⌝ }
-    ensures { λ r. ⌜ r ≡ goodEntries (now (cells .entry)) (inOrder word entries) ⌝ }
-{
-    if !are_of_kind(word, entries, cells) {
-        return false;
-    }
-    are_rising(word, entries)
-}
 
 // What is answered with wrong lent lengths, where the word is valid.
 pub fn not_lent(

@@ -2,17 +2,10 @@
 // the key and the lent lengths, and refuses by number.
 ghost use mathlib.Core.Path.{_≡_};
 ghost use Rattle.leaf.specs.Search.{saidSearched, searchSaid};
+pub use leaf_entries::Entry;
 use refusal::Refusal;
 
 pub mod inside;
-
-// An entry of a leaf. Classes 0 to 8 are a length, 9 is longer and stored whole, and `at` is a cell; 10 is longer too, and `at` is
-// the root of the layer below.
-pub struct Entry {
-    pub ikey: u64,
-    pub class: u64,
-    pub at: u64,
-}
 
 // What a search finds: the slot of the entry that it met, or the position where the key belongs.
 pub enum Searched {

@@ -1,0 +1,8 @@
+// An internode by value: n ikeys in strictly rising order and one child more. Whether one is good, and where an ikey belongs in it.
+pub mod inside;
+
+pub struct Internode {
+    pub n: usize,
+    pub ikeys: [u64; 15],
+    pub children: [u64; 16],
+}

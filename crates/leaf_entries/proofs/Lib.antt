@@ -1,0 +1,4 @@
+pub mod Lists
+pub mod Orders
+pub mod Views
+pub mod Judged

@@ -1,0 +1,65 @@
+// Lent cells: the judgement of their lengths and of a cell, and a stored suffix against a key's own. What a caller must know stands
+// in `requires`.
+ghost use mathlib.Core.Path.{_≡_};
+ghost use Prim.Native.Nat.{_≤_, min};
+ghost use lib.ListN.{length, drop};
+ghost use Rattle.lent_cells.specs.Cells.{lentRight, Lent, cellRight, Cell, storedSuffix, sameBytes};
+use ikey::Ordering;
+
+// The rule of the lent lengths.
+pub fn are_lent(cells: &[u64], bytes: &[u8]) -> bool
+    ensures { λ r. ⌜ r ≡ lentRight (now (cells .entry)) (now (bytes .entry)) ⌝ }
+{
+    let n = cells.len();
+    if n % 2 != 0 {
+        return false;
+    }
+    if n / 2 < 1 {
+        return false;
+    }
+    if 255 < n / 2 {
+        return false;
+    }
+    bytes.len() == 256 * (n / 2)
+}
+
+// A cell that an entry may have.
+pub fn is_cell(cells: &[u64], cell: u64) -> bool
+    ensures { λ r. ⌜ r ≡ cellRight (now (cells .entry)) cell ⌝ }
+{
+    let at = cell as usize;
+    if cells.len() / 2 <= at {
+        return false;
+    }
+    let length = cells[2 * at];
+    if length < 1 {
+        return false;
+    }
+    length <= 257
+}
+
+fn lesser(a: usize, b: usize) -> usize
+    ensures { λ r. ⌜ r ≡ min a b ⌝ }
+{
+    if a < b {
+        return a;
+    }
+    b
+}
+
+// Whether a cell's bytes from the key's suffix start on are the key's own from there on.
+pub fn is_suffix(cells: &[u64], bytes: &[u8], cell: u64, key: &[u8], start: usize) -> bool
+    requires { ⌜ Lent (now cells) (now bytes) × Cell (now cells) cell × (start ≤ length (now key)) ⌝ }
+    ensures { λ r. ⌜ r ≡ sameBytes (storedSuffix (now (cells .entry)) (now (bytes .entry)) cell start) (drop start (now (key .entry))) ⌝ }
+{
+    let at = cell as usize;
+    let length = cells[2 * at] as usize - 1;
+    let from = 256 * at + lesser(start, length);
+    let to = 256 * at + length;
+    let order = ikey::inside::compare_parts(&bytes[from..to], &key[start..]);
+    match order {
+        Ordering::Less => false,
+        Ordering::Equal => true,
+        Ordering::Greater => false,
+    }
+}

@@ -1,0 +1,4 @@
+pub mod Counted
+pub mod Table
+pub mod Guard
+pub mod One
