@@ -1,25 +1,25 @@
 -- One law for each return of `clear`, and what right lengths give to the store in between. Assumes nothing.
 use mathlib.Core.Path.{_≡_, refl, ap, sym, _∙_}
-use mathlib.Core.Bool.{Bool, true, false}
+use mathlib.Core.Bool.{Bool, true, false, cond}
 use mathlib.Core.List.{List, [], _∷_}
 use Prim.Native.Nat.{ℕ, _+_, _*_, _≤_, _<_}
 use native.Mathlib.Omega.{arith}
 use borrow.Author.Tests.{eq-eqb}
 use lib.ListN.{length, length-replicate, getD-replicate}
-use Rattle.refusal.specs.Answer.{Answer, accepted, refused, pick}
+use Rattle.refusal.specs.Answer.{Answer, accepted, refused}
 use Rattle.refusal.specs.declared.Refusal.{Refusal}
 use Rattle.refusal.specs.Refusals.{numberOf}
 use Rattle.refusal.proofs.Laws.{number-pos}
 use Rattle.arena.specs.declared.Measured.{Measured}
 use Rattle.arena.specs.declared.Measured.the-variants as M
 use Rattle.lent_words.specs.Parts.{putPart, zeros}
-use Rattle.arena.specs.Layout.{nodeStart, cellStart, nodeAt, rootOf, leafAt, leafWords, putLeaf, freeWords, WholeLeaf}
-use Rattle.arena.specs.Free.{freeNodes, freeCells}
-use Rattle.arena.specs.Memory.{memory, did, pickDid, nodeCount, cellCount, rightLengths, measured, saidMeasured, emptyLeaf, emptied, cleared}
+use Rattle.lent_nodes.specs.Layout.{nodeStart, cellStart, nodeAt, rootOf, leafAt, leafWords, putLeaf, freeWords, WholeLeaf}
+use Rattle.lent_nodes.specs.Free.{freeNodes, freeCells}
+use Rattle.arena.specs.Memory.{memory, did, nodeCount, cellCount, rightLengths, measured, saidMeasured, emptyLeaf, emptied, cleared}
 use Rattle.lent_words.proofs.Words.{zero-all, part-ext, part-all}
-use Rattle.arena.proofs.Nodes.{nodes-length, head-kept, leaf-stored, node-kept, free-length}
-use Rattle.arena.proofs.Frees.{all-pass}
-use Rattle.arena.proofs.Counts.{nodes-fewer}
+use Rattle.lent_nodes.proofs.Nodes.{nodes-length, head-kept, leaf-stored, node-kept, free-length}
+use Rattle.lent_nodes.proofs.Frees.{all-pass}
+use Rattle.lent_nodes.proofs.Counts.{nodes-fewer}
 use Rattle.arena.proofs.Measures.{right-means, right-if, fit-means}
 
 module _ (nodes cells bytes : List ℕ) {r : Measured} (e : saidMeasured r ≡ measured (length nodes) (length cells) (length bytes)) where
@@ -37,9 +37,9 @@ module _ (nodes cells bytes : List ℕ) {r : Measured} (e : saidMeasured r ≡ m
   unfolding measured cleared
   clear-refused {why} f = by (rightLengths (length nodes) (length cells) (length bytes)) (ap saidMeasured (sym f) ∙ e)
     where
-      by : (b : Bool) → refused why [] ≡ pick b (accepted (nodeCount (length nodes) ∷ cellCount (length cells) ∷ [])) (record { number = 10; values = [] })
+      by : (b : Bool) → refused why [] ≡ cond b (accepted (nodeCount (length nodes) ∷ cellCount (length cells) ∷ [])) (record { number = 10; values = [] })
           → did (refused why []) (memory nodes cells bytes)
-          ≡ pickDid b (did (accepted []) (emptied (nodeCount (length nodes)) (cellCount (length cells)))) (did (record { number = 10; values = [] }) (memory nodes cells bytes))
+          ≡ cond b (did (accepted []) (emptied (nodeCount (length nodes)) (cellCount (length cells)))) (did (record { number = 10; values = [] }) (memory nodes cells bytes))
       by true q = absurd (let z : numberOf why ≡ 0 = ap (λ (a : Answer). a .number) q in omega (arith, number-pos why))
       by false q = ap (λ (a : Answer). did a (memory nodes cells bytes)) q
 

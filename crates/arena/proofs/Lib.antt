@@ -2,7 +2,7 @@ pub mod Words
 pub mod Nodes
 pub mod Cells
 pub mod Frees
-pub mod Counts
 pub mod Measures
 pub mod Clears
 pub mod One
+pub mod Refused

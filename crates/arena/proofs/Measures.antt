@@ -1,17 +1,17 @@
 -- Laws on the lent lengths: which are right, and what each test of `measure` tells. Assumes nothing.
 use mathlib.Core.Path.{_≡_, refl, sym, ap, _∙_}
-use mathlib.Core.Bool.{Bool, true, false, _&&_}
+use mathlib.Core.Bool.{Bool, true, false, cond, _&&_}
 use mathlib.Core.List.{[], _∷_}
 use Prim.Native.Nat.{ℕ, _+_, _-_, _*_, _/_, _≤_, _<_}
 use native.Mathlib.Nat.{mul-div-cancel}
 use native.Mathlib.Omega.{arith}
 use borrow.Author.Tests.{leb-true, eqb-true, le-leb, eq-eqb}
 use lib.ListN.{getD}
-use Rattle.refusal.specs.Answer.{Answer, accepted, refused, pick}
+use Rattle.refusal.specs.Answer.{Answer, accepted, refused}
 use Rattle.refusal.specs.declared.Refusal.the-variants.{Memory}
 use Rattle.arena.specs.declared.Measured.{Measured}
 use Rattle.arena.specs.declared.Measured.the-variants as M
-use Rattle.arena.specs.Layout.{nodeStart, cellStart, keyStart}
+use Rattle.lent_nodes.specs.Layout.{nodeStart, cellStart, keyStart}
 use Rattle.arena.specs.Memory.{saidMeasured, nodeCount, cellCount, rightLengths, measured}
 
 pub and-true : (a b : Bool) → a && b ≡ true → (a ≡ true) × (b ≡ true)
@@ -77,7 +77,7 @@ module _ (nodes cells bytes : ℕ) {r : Measured} (e : saidMeasured r ≡ measur
   fit-means {n} {c} f = by (rightLengths nodes cells bytes) refl (ap saidMeasured (sym f) ∙ e)
     where
       by : (b : Bool) → rightLengths nodes cells bytes ≡ b
-          → accepted (n ∷ c ∷ []) ≡ pick b (accepted (nodeCount nodes ∷ cellCount cells ∷ [])) (record { number = 10; values = [] })
+          → accepted (n ∷ c ∷ []) ≡ cond b (accepted (nodeCount nodes ∷ cellCount cells ∷ [])) (record { number = 10; values = [] })
           → Right nodes cells bytes n c
       by true t q =
           let en : n ≡ nodeCount nodes = ap (λ (a : Answer). getD (a .values) 0 0) q in

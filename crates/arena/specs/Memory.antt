@@ -1,17 +1,17 @@
 -- Lent memory as a whole: its lengths, and what `clear` leaves.
 use Prim.Native.Nat.{ℕ, _+_, _-_, _*_, _/_}
-use mathlib.Core.Bool.{Bool, true, false, _&&_}
+use mathlib.Core.Bool.{Bool, cond, _&&_}
 use mathlib.Core.List.{List, [], _∷_}
 use lib.ListN.{length}
 use lib.Dec.{leb, eqb}
 use Rattle.refusal.specs.Answer.{Answer, accepted, refused, answered, _unless_}
-use Rattle.arena.specs.declared.inside.Leaf.{Leaf}
+use Rattle.lent_nodes.specs.declared.inside.Leaf.{Leaf}
 use Rattle.arena.specs.declared.Measured.{Measured}
 use Rattle.arena.specs.declared.Measured.the-variants as M
 use Rattle.arena.specs.declared.Cleared.{Cleared}
 use Rattle.arena.specs.declared.Cleared.the-variants as C
 use Rattle.lent_words.specs.Parts.{zeros}
-use Rattle.arena.specs.Layout.{putLeaf}
+use Rattle.lent_nodes.specs.Layout.{putLeaf}
 
 -- the three lent slices
 pub record Memory : Type 0 where
@@ -64,14 +64,10 @@ pub record Did : Type 0 where
 abbrev pub did : Answer → Memory → Did
 did answer after = record { answer = answer; after = after }
 
-abbrev pub pickDid : Bool → Did → Did → Did
-pickDid true a b = a
-pickDid false a b = b
-
 -- `clear` on lent memory: refusal 10 for wrong lent lengths, and then every word and byte as it was
 unfoldable pub cleared : Memory → Did
 cleared m =
-    pickDid (rightLengths (length (m .nodes)) (length (m .cells)) (length (m .bytes)))
+    cond (rightLengths (length (m .nodes)) (length (m .cells)) (length (m .bytes)))
     (did (accepted []) (emptied (nodeCount (length (m .nodes))) (cellCount (length (m .cells)))))
     (did (record { number = 10; values = [] }) m)
 

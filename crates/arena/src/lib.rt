@@ -1,4 +1,5 @@
-// The lent memory of the index, as docs/LAYOUT.md has it: nodes and cells by value, what is free, and `clear`.
+// The lent memory of the index as a whole, as docs/LAYOUT.md has it: its lengths, and `clear`. Nodes, cells and what is free are
+// passed on from the crate below.
 pub mod inside;
 
 ghost use mathlib.Core.Path.{_≡_};

@@ -1,13 +1,13 @@
 -- Laws on the whole: one for each way that the audit returns, and what right lengths give to the walk. Assumes nothing.
 use mathlib.Core.Path.{_≡_, refl, sym, ap, _∙_}
-use mathlib.Core.Bool.{Bool, true, false}
+use mathlib.Core.Bool.{Bool, true, false, cond}
 use mathlib.Core.List.{List, [], _∷_}
 use Prim.Native.Nat.{ℕ, _<_}
 use native.Mathlib.Omega.{arith}
 use borrow.Author.Needs.{needs}
 use borrow.Author.Tests.{not-true, not-false, eq-eqb, ne-eqb}
 use lib.ListN.{length, getD, length-replicate}
-use Rattle.refusal.specs.Answer.{Answer, accepted, refused, pick}
+use Rattle.refusal.specs.Answer.{Answer, accepted, refused}
 use Rattle.refusal.specs.declared.Refusal.{Refusal}
 use Rattle.refusal.specs.declared.Refusal.the-variants.{Memory}
 use Rattle.refusal.specs.Refusals.{numberOf}
@@ -19,14 +19,15 @@ use Rattle.arena.specs.Memory as lent
 use Rattle.arena.specs.Memory.{memory, nodeCount, cellCount, rightLengths, measured, saidMeasured}
 use Rattle.arena.proofs.Measures.{Right, fit-means, right-if}
 use Rattle.forest.specs.Walk.{Seen, walkLayer, restFree, walkedWell, isTree}
-use Rattle.audit.specs.Audit.{audited, told, Lent, LentAll}
+use Rattle.walk.specs.Steps.{told, Lent}
+use Rattle.audit.specs.Audit.{audited, LentAll}
 
 module _ (nodes cells bytes : List ℕ) {r : Measured} (e : saidMeasured r ≡ measured (length nodes) (length cells) (length bytes)) where
   wrong : {why : Refusal} → r ≡ M.Refused why → rightLengths (length nodes) (length cells) (length bytes) ≡ false
   unfolding measured
   wrong {why} f = by (rightLengths (length nodes) (length cells) (length bytes)) (ap saidMeasured (sym f) ∙ e)
     where
-      by : (b : Bool) → refused why [] ≡ pick b (accepted (nodeCount (length nodes) ∷ cellCount (length cells) ∷ [])) (record { number = 10; values = [] })
+      by : (b : Bool) → refused why [] ≡ cond b (accepted (nodeCount (length nodes) ∷ cellCount (length cells) ∷ [])) (record { number = 10; values = [] })
           → b ≡ false
       by true q = absurd (let z : numberOf why ≡ 0 = ap (λ (a : Answer). a .number) q in omega (arith, number-pos why))
       by false q = refl

@@ -1,5 +1,3 @@
-pub mod Edges
-pub mod Steps
 pub mod Rests
 pub mod Judging
 pub mod One

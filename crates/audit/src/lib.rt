@@ -1,7 +1,4 @@
 // The audit: whether lent memory is a tree by the rules. It ends on any memory whatever, and changes no byte.
-pub mod edge;
-mod walk;
-
 ghost use mathlib.Core.Path.{_≡_};
 ghost use Prim.Native.Nat.{_*_, _≤_};
 ghost use lib.ListN.{length};
@@ -41,7 +38,7 @@ pub fn is_tree(nodes: &[u64], cells: &[u64], bytes: &[u8]) -> bool
     let root = nodes[0];
     let mut seen = [0u8; 510];
     let above = [0u64; 32];
-    if !walk::walk_layer(nodes, cells, bytes, &mut seen, &above, 0, root) {
+    if !walk::inside::walk_layer(nodes, cells, bytes, &mut seen, &above, 0, root) {
         return false;
     }
     rest_free(nodes, cells, bytes, &seen, n, c)

@@ -7,10 +7,11 @@ use native.Mathlib.Omega.{arith}
 use lib.Dec.{T}
 use lib.ListN.{length}
 use Rattle.order.specs.Map.{All, a[], _a∷_}
+use Rattle.order.specs.Lists.{total}
 use Rattle.order.proofs.Map.{all-map, all-zip}
 use Rattle.arena.specs.Memory.{Memory}
 use Rattle.forest.specs.Cells.{filed}
-use Rattle.forest.specs.Trees.{Key, Tree, nodeNo, cellNo, once, total, nodesOf, Holds}
+use Rattle.forest.specs.Trees.{Key, Tree, nodeNo, cellNo, once, nodesOf, Holds}
 use Rattle.forest.specs.Layers.{Value, Layer, reachedBy, reached, HeldBy, Held, FiledBy, Filed}
 use Rattle.forest.proofs.Decides.{once-other}
 use Rattle.forest.proofs.Inside.{leaf-inside, internode-inside, filed-inside}

@@ -1,7 +1,7 @@
 -- A step of the walk decides a question: it goes through exactly where the question has a witness, and then it marks what the
 -- witness reaches, nothing twice. How `see`, `when`, `andThen` and `each` decide. Assumes nothing.
 use mathlib.Core.Path.{_≡_, refl, sym, _∙_, subst}
-use mathlib.Core.Bool.{Bool, true, false}
+use mathlib.Core.Bool.{Bool, true, false, cond}
 use mathlib.Core.List.{List, [], _∷_}
 use mathlib.Core.Option.{Option, none, some}
 use mathlib.Core.Logic.{⊎-elim}
@@ -14,7 +14,7 @@ use lib.Seq.{getD-set-same, getD-set-other}
 use borrow.Author.Tests.{eq-eqb, ne-eqb}
 use Rattle.bank.proofs.Tests.{is-true}
 use Rattle.arena.proofs.Words.{lt-or-ge}
-use Rattle.forest.specs.Trees.{choose, once}
+use Rattle.forest.specs.Trees.{once}
 use Rattle.forest.specs.Walk.{Seen, Step, when, andThen, each, see}
 
 -- ---- a number counts once at itself, and nowhere else
@@ -31,7 +31,7 @@ pub once-most : (n i : ℕ) → once n i ≤ 1
 unfolding once
 once-most n i = either (eqb n i)
   where
-    either : (b : Bool) → choose b 1 0 ≤ 1
+    either : (b : Bool) → cond b 1 0 ≤ 1
     either true = omega arith
     either false = omega arith
 

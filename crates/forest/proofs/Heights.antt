@@ -7,7 +7,8 @@ use native.Mathlib.Omega.{arith}
 use native.Mathlib.Decide.{ℕ-discrete}
 use lib.ListN.{length, getD}
 use Rattle.order.specs.Map.{All, _a∷_}
-use Rattle.forest.specs.Trees.{Tree, topOf, nodeNo, once, total, nodesOf, Holds, Between, last, next, Bounded}
+use Rattle.order.specs.Lists.{total}
+use Rattle.forest.specs.Trees.{Tree, topOf, nodeNo, once, nodesOf, Holds, Between, last, next, Bounded}
 use Rattle.forest.specs.Walk.{heightAt}
 use Rattle.forest.proofs.Decides.{once-same}
 use Rattle.forest.proofs.Inside.{leaf-kind, internode-kind, leaf-inside, internode-inside}

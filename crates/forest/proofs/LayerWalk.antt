@@ -8,9 +8,10 @@ use native.Mathlib.Omega.{arith}
 use lib.Dec.{T}
 use lib.ListN.{length}
 use Rattle.order.specs.Map.{All, a[], _a∷_}
+use Rattle.order.specs.Lists.{total}
 use Rattle.arena.specs.Memory.{Memory}
 use Rattle.forest.specs.Cells.{filed}
-use Rattle.forest.specs.Trees.{Key, Ref, cell, link, entriesOf, cellNo, nodesOf, once, total, leftmost, rightmost}
+use Rattle.forest.specs.Trees.{Key, Ref, cell, link, entriesOf, cellNo, nodesOf, once, leftmost, rightmost}
 use Rattle.forest.specs.Layers.{Value, Layer, rootOf, refOf, reachedBy, reached}
 use Rattle.forest.specs.Layers.{HeldBy, Held, InEdgesBy, InEdges, FiledBy, Filed}
 use Rattle.forest.specs.Walk.{Step, walkRef, heightAt, walkNode, walkOne, walkLayer}

@@ -8,8 +8,9 @@ use lib.Dec.{T, leb, ltb, leb→le, le→leb, ltb→lt, lt→ltb}
 use lib.ListN.{length, drop}
 use Rattle.bank.proofs.Tests.{and-left, and-right, and-both}
 use Rattle.order.specs.Map.{All, a[], _a∷_}
+use Rattle.order.specs.Lists.{total, flattened}
 use Rattle.forest.specs.Nodes.{leafRight, internodeRight, entriesAt, ikeysAt, childrenAt}
-use Rattle.forest.specs.Trees.{Key, Ref, seenAs, Tree, topOf, joined, entriesOf, nodeNo, once, total, nodesOf, Holds}
+use Rattle.forest.specs.Trees.{Key, Ref, seenAs, Tree, topOf, entriesOf, nodeNo, once, nodesOf, Holds}
 use Rattle.forest.specs.Trees.{Within, Between, last, next, Bounded}
 use Rattle.forest.specs.Walk.{Step, within, walkEntry, Span, spans, walkSpan, walkLeaf, walkInternode, walkNode, each}
 use Rattle.forest.proofs.Decides.{Decides, Counting, Each, sumEach}
@@ -70,7 +71,7 @@ module _ (nodes : List ℕ) (W : Key × Ref → Type 0) (count : (e : Key × Ref
     tops ps = map (λ p. topOf h (p .1)) ps
 
     abbrev entries : List (ℕ × Tree h) → List (Key × Ref)
-    entries ps = joined (λ p. entriesOf h (p .1)) ps
+    entries ps = flattened (λ p. entriesOf h (p .1)) ps
 
     abbrev both : (ps : List (ℕ × Tree h)) → Each W (entries ps) → ℕ → ℕ
     both ps ws i = total (λ p. nodesOf h (p .1) i) ps + sumEach count (entries ps) ws i

@@ -5,10 +5,12 @@ use mathlib.Core.Logic.{_⊎_, inl, inr}
 use mathlib.Core.List.{List, [], _∷_, _++_, map}
 use lib.Dec.{T}
 use Rattle.order.specs.Map.{All}
+use Rattle.order.specs.Lists.{total, flattened}
 use Rattle.arena.specs.Layout.{keyAt, frameAt}
 use Rattle.arena.specs.Memory.{Memory}
 use Rattle.forest.specs.Cells.{filed}
-use Rattle.forest.specs.Trees.{Key, Ref, cell, link, Tree, topOf, entriesOf, joined, cellNo, once, total, nodesOf, Holds, Bounded, leftmost, rightmost}
+use Rattle.forest.specs.Trees.{Key, Ref, cell, link, Tree, topOf, entriesOf, cellNo, once, nodesOf, Holds, Bounded}
+use Rattle.forest.specs.Trees.{leftmost, rightmost}
 
 -- a tree of any height
 abbrev pub Tall : Type 0
@@ -81,7 +83,7 @@ Filed cells bytes l above v = All (λ e. FiledBy cells bytes l above (e .0) (e .
 abbrev pub listedBy : List ℕ → List ℕ → (l : ℕ) → Value l → List (List ℕ × ℕ)
 listedBy cells bytes zero c = (keyAt cells bytes c, frameAt cells c) ∷ []
 listedBy cells bytes (suc l) (inl c) = (keyAt cells bytes c, frameAt cells c) ∷ []
-listedBy cells bytes (suc l) (inr v) = joined (λ e. listedBy cells bytes l (e .1)) (v .1)
+listedBy cells bytes (suc l) (inr v) = flattened (λ e. listedBy cells bytes l (e .1)) (v .1)
 
 abbrev pub listed : List ℕ → List ℕ → (l : ℕ) → Layer l → List (List ℕ × ℕ)
-listed cells bytes l v = joined (λ e. listedBy cells bytes l (e .1)) (v .1)
+listed cells bytes l v = flattened (λ e. listedBy cells bytes l (e .1)) (v .1)

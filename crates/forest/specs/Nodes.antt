@@ -7,7 +7,7 @@ use lib.ListN.{drop}
 use Rattle.bank.specs.Bank.{Bank}
 use Rattle.nibbles.specs.Words.{validWord}
 use Rattle.internode.specs.Lists as internode
-use Rattle.leaf.specs.declared.Entry.{Entry}
+use Rattle.leaf_entries.specs.declared.Entry.{Entry}
 use Rattle.leaf.specs.Lists.{every}
 use Rattle.leaf.specs.Leaf.{inUse, slotsOf, rising}
 use Rattle.arena.specs.Parts.{part}

@@ -1,12 +1,13 @@
 -- The tree of one layer, its nodes by their numbers.
 use Prim.Native.Nat.{ℕ, zero, suc, _+_, _*_, _^_, _≤_, _<_}
 use mathlib.Core.Path.{_≡_}
-use mathlib.Core.Bool.{Bool, true, false}
-use mathlib.Core.List.{List, [], _∷_, _++_, map}
+use mathlib.Core.Bool.{cond}
+use mathlib.Core.List.{List, [], _∷_, map}
 use lib.Dec.{T, eqb}
 use lib.ListN.{drop}
 use Rattle.order.specs.Map.{All}
-use Rattle.leaf.specs.declared.Entry.{Entry}
+use Rattle.order.specs.Lists.{total, flattened}
+use Rattle.leaf_entries.specs.declared.Entry.{Entry}
 use Rattle.forest.specs.Nodes.{entriesAt, ikeysAt, childrenAt, leafRight, internodeRight}
 
 -- an ikey and a class: a length of 0 to 8, or 9 for longer
@@ -17,13 +18,9 @@ Key = ℕ × ℕ
 pub data Ref : Type 0 where
   cell link : ℕ → Ref
 
-abbrev pub choose : {A : Type 0} → Bool → A → A → A
-choose true a b = a
-choose false a b = b
-
 -- an entry as it stands in memory, seen as ikey and class with a cell or a link: class 10 is a link, for longer only
 unfoldable pub seenAs : Entry → Key × Ref
-seenAs e = choose (eqb (e .class) 10) ((e .ikey, 9), link (e .at)) ((e .ikey, e .class), cell (e .at))
+seenAs e = cond (eqb (e .class) 10) ((e .ikey, 9), link (e .at)) ((e .ikey, e .class), cell (e .at))
 
 -- A tree by its height. At height 0 it is a leaf: its number, and its entries in order. Above, it is an internode: its number,
 -- and its children, each beside the edge on its left. All leaves of a tree are equally deep.
@@ -36,14 +33,10 @@ abbrev pub topOf : (h : ℕ) → Tree h → ℕ
 topOf zero t = t .0
 topOf (suc h) t = t .0
 
-abbrev pub joined : {A B : Type 0} → (A → List B) → List A → List B
-joined f [] = []
-joined f (x ∷ xs) = f x ++ joined f xs
-
 -- its entries, in order
 abbrev pub entriesOf : (h : ℕ) → Tree h → List (Key × Ref)
 entriesOf zero t = t .1
-entriesOf (suc h) t = joined (λ p. entriesOf h (p .1)) (t .1)
+entriesOf (suc h) t = flattened (λ p. entriesOf h (p .1)) (t .1)
 
 -- ---- counting: nodes and cells in one row of numbers, node k as 2k, cell c as 2c + 1
 
@@ -55,11 +48,7 @@ cellNo c = 2 * c + 1
 
 -- 1 where i is the number itself
 unfoldable pub once : ℕ → ℕ → ℕ
-once number i = choose (eqb number i) 1 0
-
-abbrev pub total : {A : Type 0} → (A → ℕ) → List A → ℕ
-total f [] = 0
-total f (x ∷ xs) = f x + total f xs
+once number i = cond (eqb number i) 1 0
 
 -- how often the tree reaches number i
 abbrev pub nodesOf : (h : ℕ) → Tree h → ℕ → ℕ

@@ -1,7 +1,7 @@
 -- The walk that decides whether memory is a tree. Layer walk calls node walk, which calls layer walk at a link. Each step takes the
 -- numbers seen so far and hands back those with its own, or nothing where a rule does not hold or a number was seen before.
 use Prim.Native.Nat.{ℕ, zero, suc, _+_, _*_, _^_, _≤_, _<_}
-use mathlib.Core.Bool.{Bool, true, false, _&&_, _||_}
+use mathlib.Core.Bool.{Bool, true, false, cond, _&&_, _||_}
 use mathlib.Core.List.{List, [], _∷_, _++_, map}
 use mathlib.Core.Option.{Option, none, some}
 use lib.Dec.{leb, ltb, eqb}
@@ -13,7 +13,7 @@ use Rattle.arena.specs.Layout.{kindAt}
 use Rattle.arena.specs.Memory.{Memory, nodeCount, cellCount, rightLengths}
 use Rattle.forest.specs.Nodes.{entriesAt, ikeysAt, childrenAt, leafRight, internodeRight, nodeFree}
 use Rattle.forest.specs.Cells.{filed, cellFree}
-use Rattle.forest.specs.Trees.{Key, Ref, cell, link, choose, seenAs, nodeNo, cellNo, leftmost, rightmost}
+use Rattle.forest.specs.Trees.{Key, Ref, cell, link, seenAs, nodeNo, cellNo, leftmost, rightmost}
 
 -- 1 at each number that was seen, 0 at the others
 abbrev pub Seen : Type 0
@@ -91,7 +91,7 @@ walkNode ref nodes (suc h) lo hi n seen =
 unfoldable pub heightAt : List ℕ → ℕ → ℕ → ℕ
 heightAt nodes zero n = 0
 heightAt nodes (suc most) n =
-    choose (eqb (kindAt nodes n) 2) (suc (heightAt nodes most (getD (childrenAt nodes n) 0 0))) 0
+    cond (eqb (kindAt nodes n) 2) (suc (heightAt nodes most (getD (childrenAt nodes n) 0 0))) 0
 
 -- one layer, with the walk of the layers below handed in
 unfoldable pub walkOne : (List ℕ → ℕ → Step) → Memory → List ℕ → ℕ → Step

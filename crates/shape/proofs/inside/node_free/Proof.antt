@@ -1,6 +1,6 @@
 -- `shape::inside::node_free` meets its contract. Assumes nothing.
 use borrow.Author.Needs.{needs}
-use Rattle.shape.proofs.Zeros.{frees}
+use Rattle.shape.proofs.Zeros.{free-node}
 use Rattle.shape.proofs.inside.node_free.Statement.{statement}
 use Rattle.shape.proofs.inside.node_free.Tie as tie
 
@@ -11,4 +11,4 @@ node-free-spec =
     (λ c. search needs)
     (λ c. search needs)
     (λ c κs. search needs)
-    (λ c. search frees))
+    (λ c. search free-node))

@@ -1,7 +1,0 @@
--- `audit::edge::is_before` meets its contract. Assumes nothing.
-use Rattle.audit.proofs.Edges.{edges}
-use Rattle.audit.proofs.edge.is_before.Statement.{statement}
-use Rattle.audit.proofs.edge.is_before.Tie as tie
-
-pub is-before-spec : {M : Type 1} → statement M
-is-before-spec = tie.close (tie.spec (λ c. search edges) (λ c. search edges))

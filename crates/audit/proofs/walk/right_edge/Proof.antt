@@ -1,7 +1,0 @@
--- `audit::walk::right_edge` meets its contract. Assumes nothing.
-use Rattle.audit.proofs.Steps.{righted}
-use Rattle.audit.proofs.walk.right_edge.Statement.{statement}
-use Rattle.audit.proofs.walk.right_edge.Tie as tie
-
-pub right-edge-spec : {M : Type 1} → statement M
-right-edge-spec = tie.close (tie.spec (λ c. search righted) (λ c. search righted) (λ c. search righted) (λ c. search righted))

@@ -1,8 +1,0 @@
--- `audit::walk::see_number` meets its contract. Assumes nothing.
-use Rattle.audit.proofs.Steps.{sees}
-use Rattle.audit.proofs.walk.see_number.Statement.{statement}
-use Rattle.audit.proofs.walk.see_number.Tie as tie
-
-pub see-number-spec : {M : Type 1} → statement M
-see-number-spec =
-    tie.close (tie.spec (λ c. search sees) (λ c. search sees) (λ c. search sees) (λ c. search sees) (λ c. search sees))

@@ -1,0 +1,4 @@
+pub mod Nodes
+pub mod Cells
+pub mod Frees
+pub mod Counts

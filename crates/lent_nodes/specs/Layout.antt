@@ -1,0 +1,126 @@
+-- docs/LAYOUT.md as definitions: where nodes and cells stand in lent memory, and what stands in them.
+use Prim.Native.Nat.{ℕ, _+_, _-_, _*_}
+use mathlib.Core.Path.{_≡_}
+use mathlib.Core.List.{List, [], _∷_, _++_}
+use lib.ListN.{length, getD}
+use Rattle.lent_nodes.specs.declared.inside.Leaf.{Leaf}
+use Rattle.lent_nodes.specs.declared.inside.Internode.{Internode}
+use Rattle.lent_words.specs.Parts.{part, putPart, zeros}
+
+-- ---- nodes: two words, and then 47 for each node
+
+-- where node k starts
+abbrev pub nodeStart : ℕ → ℕ
+nodeStart k = 2 + k * 47
+
+-- the 47 words of node k
+abbrev pub nodeAt : List ℕ → ℕ → List ℕ
+nodeAt nodes k = part nodes (nodeStart k) 47
+
+-- other words in the place of node k
+abbrev pub putNode : List ℕ → ℕ → List ℕ → List ℕ
+putNode nodes k ws = putPart nodes (nodeStart k) ws
+
+-- word i of node k
+abbrev pub wordAt : List ℕ → ℕ → ℕ → ℕ
+wordAt nodes k i = getD nodes (nodeStart k + i) 0
+
+-- 0 free, 1 leaf, 2 internode
+abbrev pub kindAt : List ℕ → ℕ → ℕ
+kindAt nodes k = getD nodes (nodeStart k) 0
+
+-- the number of the root
+abbrev pub rootOf : List ℕ → ℕ
+rootOf nodes = getD nodes 0 0
+
+-- a leaf by its 47 words: the slot word, and three columns of fifteen
+unfoldable pub leafOf : List ℕ → Leaf
+leafOf ws =
+    record { word = getD ws 1 0; ikeys = part ws 2 15; classes = part ws 17 15; refs = part ws 32 15 }
+
+abbrev pub leafWords : Leaf → List ℕ
+leafWords l = 1 ∷ l .word ∷ (l .ikeys ++ l .classes ++ l .refs)
+
+-- an internode by its 47 words: the number of its ikeys, fifteen ikeys, sixteen children, and fourteen zeros
+unfoldable pub internodeOf : List ℕ → Internode
+internodeOf ws = record { n = getD ws 1 0; ikeys = part ws 2 15; children = part ws 17 16 }
+
+abbrev pub internodeWords : Internode → List ℕ
+internodeWords x = 2 ∷ x .n ∷ (x .ikeys ++ x .children ++ zeros 14)
+
+-- a free node
+abbrev pub freeWords : List ℕ
+freeWords = zeros 47
+
+-- node k, read as a leaf and as an internode
+abbrev pub leafAt : List ℕ → ℕ → Leaf
+leafAt nodes k = leafOf (nodeAt nodes k)
+
+abbrev pub internodeAt : List ℕ → ℕ → Internode
+internodeAt nodes k = internodeOf (nodeAt nodes k)
+
+-- node k, written as a leaf, as an internode, and freed
+abbrev pub putLeaf : List ℕ → ℕ → Leaf → List ℕ
+putLeaf nodes k l = putNode nodes k (leafWords l)
+
+abbrev pub putInternode : List ℕ → ℕ → Internode → List ℕ
+putInternode nodes k x = putNode nodes k (internodeWords x)
+
+abbrev pub freedNode : List ℕ → ℕ → List ℕ
+freedNode nodes k = putNode nodes k freeWords
+
+-- the columns of a leaf, and of an internode, are whole
+pub record WholeLeaf (l : Leaf) : Type 0 where
+  pub ikeys-15 : length (l .ikeys) ≡ 15
+  pub classes-15 : length (l .classes) ≡ 15
+  pub refs-15 : length (l .refs) ≡ 15
+
+pub record WholeInternode (x : Internode) : Type 0 where
+  pub ikeys-15 : length (x .ikeys) ≡ 15
+  pub children-16 : length (x .children) ≡ 16
+
+-- ---- cells: two words and 256 bytes for each
+
+-- where the words of cell k start, and where its bytes do
+abbrev pub cellStart : ℕ → ℕ
+cellStart k = k * 2
+
+abbrev pub keyStart : ℕ → ℕ
+keyStart k = k * 256
+
+-- the two words of cell k, and its 256 bytes
+abbrev pub cellAt : List ℕ → ℕ → List ℕ
+cellAt cells k = part cells (cellStart k) 2
+
+abbrev pub bytesAt : List ℕ → ℕ → List ℕ
+bytesAt bytes k = part bytes (keyStart k) 256
+
+-- the key's length plus 1, or 0 where the cell is free
+abbrev pub markAt : List ℕ → ℕ → ℕ
+markAt cells k = getD cells (cellStart k) 0
+
+-- the frame number
+abbrev pub frameAt : List ℕ → ℕ → ℕ
+frameAt cells k = getD cells (cellStart k + 1) 0
+
+-- the key
+abbrev pub keyAt : List ℕ → List ℕ → ℕ → List ℕ
+keyAt cells bytes k = part bytes (keyStart k) (markAt cells k - 1)
+
+-- a key, and zeros up to 256 bytes
+abbrev pub keyBytes : List ℕ → List ℕ
+keyBytes key = key ++ zeros (256 - length key)
+
+-- cell k with a key of this length and a frame, and the bytes with the key
+abbrev pub putCell : List ℕ → ℕ → ℕ → ℕ → List ℕ
+putCell cells k len frame = putPart cells (cellStart k) ((len + 1) ∷ frame ∷ [])
+
+abbrev pub putKey : List ℕ → ℕ → List ℕ → List ℕ
+putKey bytes k key = putPart bytes (keyStart k) (keyBytes key)
+
+-- cell k free, and its bytes
+abbrev pub freedCell : List ℕ → ℕ → List ℕ
+freedCell cells k = putPart cells (cellStart k) (zeros 2)
+
+abbrev pub freedKey : List ℕ → ℕ → List ℕ
+freedKey bytes k = putPart bytes (keyStart k) (zeros 256)

@@ -1,0 +1,211 @@
+// The walk: layer walk calls node walk, which calls layer walk at a link. For the audit, which has judged the lent lengths. What a
+// caller must know stands in `requires`.
+ghost use mathlib.Core.Path.{_≡_};
+ghost use Prim.Native.Nat.{_+_, _-_, _≤_, _<_};
+ghost use lib.ListN.{length, take};
+ghost use Rattle.arena.specs.Layout.{nodeStart};
+ghost use Rattle.arena.specs.Memory.{memory};
+ghost use Rattle.forest.specs.Trees.{seenAs};
+ghost use Rattle.forest.specs.Walk.{see, walkLeaf, walkInternode, walkNode, walkLayer};
+ghost use Rattle.edge.specs.Edges.{leftOf, rightOf};
+ghost use Rattle.walk.specs.Steps.{edgeAt, told, refsAt, cellOf, Lent, LentCells};
+use edge::Edge;
+use leaf::Entry;
+
+// One layer from its root on.
+pub fn walk_layer(
+    nodes: &[u64],
+    cells: &[u64],
+    bytes: &[u8],
+    seen: &mut [u8],
+    above: &[u64],
+    links: usize,
+    root: u64,
+) -> bool
+    requires { ⌜ Lent (now nodes) (now cells) (now bytes) (now seen) (now above) links ⌝ }
+    ensures { λ r. ⌜ told r (now (seen .exit)) ≡ walkLayer (31 - links) (memory (now (nodes .entry)) (now (cells .entry)) (now (bytes .entry))) (take links (now (above .entry))) root (now (seen .entry)) ⌝ }
+{
+    let h = shape::inside::height(nodes, nodes.len() / 47, root);
+    let open = Edge {
+        known: false,
+        ikey: 0,
+    };
+    walk_node(nodes, cells, bytes, seen, above, links, h, open, open, root)
+}
+
+// One node of this height, between two edges.
+fn walk_node(
+    nodes: &[u64],
+    cells: &[u64],
+    bytes: &[u8],
+    seen: &mut [u8],
+    above: &[u64],
+    links: usize,
+    h: usize,
+    low: Edge,
+    high: Edge,
+    n: u64,
+) -> bool
+    requires { ⌜ Lent (now nodes) (now cells) (now bytes) (now seen) (now above) links ⌝ }
+    ensures { λ r. ⌜ told r (now (seen .exit)) ≡ walkNode (refsAt (memory (now (nodes .entry)) (now (cells .entry)) (now (bytes .entry))) (now (above .entry)) links) (now (nodes .entry)) h (leftOf low) (rightOf high) n (now (seen .entry)) ⌝ }
+{
+    if (nodes.len() / 47) as u64 <= n {
+        return false;
+    }
+    let k = n as usize;
+    if !see_number(seen, 2 * k) {
+        return false;
+    }
+    if h == 0 {
+        return walk_leaf(nodes, cells, bytes, seen, above, links, low, high, k);
+    }
+    walk_internode(nodes, cells, bytes, seen, above, links, h - 1, low, high, k)
+}
+
+// One leaf, its entries in order.
+fn walk_leaf(
+    nodes: &[u64],
+    cells: &[u64],
+    bytes: &[u8],
+    seen: &mut [u8],
+    above: &[u64],
+    links: usize,
+    low: Edge,
+    high: Edge,
+    k: usize,
+) -> bool
+    requires { ⌜ Lent (now nodes) (now cells) (now bytes) (now seen) (now above) links ⌝ }
+    requires { ⌜ nodeStart k + 47 ≤ length (now nodes) ⌝ }
+    ensures { λ r. ⌜ told r (now (seen .exit)) ≡ walkLeaf (refsAt (memory (now (nodes .entry)) (now (cells .entry)) (now (bytes .entry))) (now (above .entry)) links) (now (nodes .entry)) (leftOf low) (rightOf high) k (now (seen .entry)) ⌝ }
+{
+    if !shape::inside::leaf_right(nodes, k) {
+        return false;
+    }
+    let word = nodes[2 + k * 47 + 1];
+    let size = leaf::inside::size_of(word);
+    let mut i: usize = 0;
+    while i < size {
+        let slot = leaf::inside::slot_at(word, i);
+        let e = shape::inside::entry_at(nodes, k, slot);
+        if !edge::inside::is_within(low, high, e.ikey) {
+            return false;
+        }
+        if !walk_entry(nodes, cells, bytes, seen, above, links, e) {
+            return false;
+        }
+        i += 1;
+    }
+    true
+}
+
+// An entry's cell, or the layer below at a link.
+fn walk_entry(
+    nodes: &[u64],
+    cells: &[u64],
+    bytes: &[u8],
+    seen: &mut [u8],
+    above: &[u64],
+    links: usize,
+    e: Entry,
+) -> bool
+    requires { ⌜ Lent (now nodes) (now cells) (now bytes) (now seen) (now above) links ⌝ }
+    ensures { λ r. ⌜ told r (now (seen .exit)) ≡ refsAt (memory (now (nodes .entry)) (now (cells .entry)) (now (bytes .entry))) (now (above .entry)) links (seenAs e .0) (seenAs e .1) (now (seen .entry)) ⌝ }
+{
+    if e.class != 10 {
+        return walk_cell(cells, bytes, seen, above, links, e);
+    }
+    if links == 31 {
+        return false;
+    }
+    let mut way = [0u64; 32];
+    arena::inside::copy_words(above, 0, &mut way, 0, links);
+    arena::inside::put1(&mut way, links, e.ikey);
+    walk_layer(nodes, cells, bytes, seen, &way, links + 1, e.at)
+}
+
+// An entry's cell, rightly filed.
+fn walk_cell(
+    cells: &[u64],
+    bytes: &[u8],
+    seen: &mut [u8],
+    above: &[u64],
+    links: usize,
+    e: Entry,
+) -> bool
+    requires { ⌜ LentCells (now cells) (now bytes) (now seen) (now above) links ⌝ }
+    ensures { λ r. ⌜ told r (now (seen .exit)) ≡ cellOf (now (cells .entry)) (now (bytes .entry)) (take links (now (above .entry))) e (now (seen .entry)) ⌝ }
+{
+    if (cells.len() / 2) as u64 <= e.at {
+        return false;
+    }
+    let c = e.at as usize;
+    if !shape::inside::is_filed(cells, bytes, above, links, e.ikey, e.class, c) {
+        return false;
+    }
+    see_number(seen, 2 * c + 1)
+}
+
+// One internode, its children in order.
+fn walk_internode(
+    nodes: &[u64],
+    cells: &[u64],
+    bytes: &[u8],
+    seen: &mut [u8],
+    above: &[u64],
+    links: usize,
+    h: usize,
+    low: Edge,
+    high: Edge,
+    k: usize,
+) -> bool
+    requires { ⌜ Lent (now nodes) (now cells) (now bytes) (now seen) (now above) links ⌝ }
+    requires { ⌜ nodeStart k + 47 ≤ length (now nodes) ⌝ }
+    ensures { λ r. ⌜ told r (now (seen .exit)) ≡ walkInternode (walkNode (refsAt (memory (now (nodes .entry)) (now (cells .entry)) (now (bytes .entry))) (now (above .entry)) links) (now (nodes .entry)) h) (now (nodes .entry)) (leftOf low) (rightOf high) k (now (seen .entry)) ⌝ }
+{
+    if !shape::inside::internode_right(nodes, k) {
+        return false;
+    }
+    let at = 2 + k * 47;
+    let n = nodes[at + 1] as usize;
+    let mut left = low;
+    let mut i: usize = 0;
+    while i <= n {
+        let right = right_edge(nodes, at + 2 + i, i < n, high);
+        if !edge::inside::is_between(left, right) {
+            return false;
+        }
+        let c = nodes[at + 17 + i];
+        if !walk_node(nodes, cells, bytes, seen, above, links, h, left, right, c) {
+            return false;
+        }
+        left = right;
+        i += 1;
+    }
+    true
+}
+
+// The edge to the right of a child: the ikey that stands there, or the node's own behind the last.
+fn right_edge(nodes: &[u64], at: usize, inner: bool, high: Edge) -> Edge
+    requires { ⌜ at < length (now nodes) ⌝ }
+    ensures { λ r. ⌜ r ≡ edgeAt (now (nodes .entry)) at inner high ⌝ }
+{
+    if !inner {
+        return high;
+    }
+    Edge {
+        known: true,
+        ikey: nodes[at],
+    }
+}
+
+// A number, if it was not seen before.
+fn see_number(seen: &mut [u8], i: usize) -> bool
+    requires { ⌜ i < length (now seen) ⌝ }
+    ensures { λ r. ⌜ told r (now (seen .exit)) ≡ see i (now (seen .entry)) ⌝ }
+{
+    if seen[i] != 0 {
+        return false;
+    }
+    seen[i] = 1;
+    true
+}
