@@ -10,12 +10,12 @@ use lib.ListN.{length, getD, take}
 use lib.Seq.{length-take-le, getD-take}
 use borrow.Author.Needs.{needs}
 use borrow.Author.Tests.{le-leb, lt-leb, le-ltb, lt-ltb}
-use Rattle.internode.specs.declared.Internode as internode
-use Rattle.internode.specs.declared.Split.{Split}
+use Rattle.internode_places.specs.declared.Internode as internode
+use Rattle.internode_inserts.specs.declared.Split.{Split}
 use Rattle.internode.specs.Node.{childPlace, inserted}
 use Rattle.internode.specs.Split.{splitOf}
 use Rattle.internode.proofs.Places.{last-none, last-here}
-use Rattle.arena.specs.declared.inside.Internode as arena
+use Rattle.lent_nodes.specs.declared.inside.Internode as arena
 use Rattle.arena.specs.Layout.{nodeStart, internodeOf, internodeAt, putInternode}
 use Rattle.arena.proofs.Words.{part-part}
 use Rattle.arena.proofs.Nodes.{word-loaded}

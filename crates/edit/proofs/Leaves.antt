@@ -1,7 +1,7 @@
 -- A law for each way in which a call on a leaf returns. Assumes nothing.
 use Prim.Native.Nat.{ℕ, suc, _+_, _*_, _-_, _%_, _/_, _≤_, _<_}
 use mathlib.Core.Path.{_≡_, refl, sym, ap, _∙_}
-use mathlib.Core.Bool.{Bool, true, false, not}
+use mathlib.Core.Bool.{Bool, true, false, cond, not}
 use mathlib.Core.List.{List, [], _∷_, _++_, map}
 use native.Mathlib.Decide.{ℕ-discrete}
 use native.Mathlib.Numerals.{add-one}
@@ -12,11 +12,11 @@ use lib.Seq.{length-take-le, getD-take, getD-drop, getD-append-add, getD-at, get
 use borrow.Author.Count.{below-more}
 use borrow.Author.Needs.{needs}
 use borrow.Author.Tests.{eq-eqb, ne-eqb}
-use Rattle.refusal.specs.Answer.{Answer, pick, accepted, refused}
+use Rattle.refusal.specs.Answer.{Answer, accepted, refused}
 use Rattle.refusal.specs.declared.Refusal.{Refusal}
 use Rattle.refusal.specs.Refusals.{numberOf}
 use Rattle.refusal.proofs.Laws.{number-pos}
-use Rattle.bank.specs.Bank.{width, slotAt, either, insertedFromBack}
+use Rattle.bank.specs.Bank.{width, slotAt, insertedFromBack}
 use Rattle.bank.specs.Calls.{insertFromBack}
 use Rattle.nibbles.specs.Words.{wordOf, validWord}
 use Rattle.nibbles.proofs.Nibbles.{length-nibbles, small-nibbles}
@@ -24,12 +24,12 @@ use Rattle.slot_answers.specs.declared.Inserted.{Inserted}
 use Rattle.slot_answers.specs.declared.Inserted.the-variants as I
 use Rattle.permuter.specs.Words.{changed, madeSorted}
 use Rattle.permuter.specs.Answers.{saidInserted}
-use Rattle.leaf.specs.declared.Entry.{Entry}
+use Rattle.leaf_entries.specs.declared.Entry.{Entry}
 use Rattle.leaf.specs.Leaf.{none, rank, slotsOf, inUse, less}
 use Rattle.leaf.specs.Search.{placeGreater}
 use Rattle.leaf.specs.Cut.{ikeyOf, differs, outward, cutOf}
 use Rattle.leaf.proofs.Lists.{getD-map, first-at, first-none, map-append}
-use Rattle.arena.specs.declared.inside.Leaf.{Leaf}
+use Rattle.lent_nodes.specs.declared.inside.Leaf.{Leaf}
 use Rattle.arena.specs.Parts.{zeros}
 use Rattle.arena.specs.Layout.{wordAt, putLeaf}
 use Rattle.forest.specs.Nodes.{entryAt, entriesAt}
@@ -184,7 +184,7 @@ agree-more all es i d w l f q j h =
 -- ---- the cut
 
 module _ (es : List Entry) (far : ℕ) (l : far < 8) (e : cutOf es ≡ outward (differs es) 8 far (8 - far)) where
-  opened : cutOf es ≡ either (differs es (8 - far)) (8 - far) (either (differs es (8 + far)) (8 + far) (outward (differs es) 8 (suc far) (8 - suc far)))
+  opened : cutOf es ≡ cond (differs es (8 - far)) (8 - far) (cond (differs es (8 + far)) (8 + far) (outward (differs es) 8 (suc far) (8 - suc far)))
   unfolding outward
   opened = e ∙ ap (outward (differs es) 8 far) (let z : 8 - far ≡ suc (8 - suc far) = omega arith in z)
 
@@ -243,7 +243,7 @@ second : Answer → ℕ
 second a = getD (a .values) 1 0
 
 small : (a b d : Bool) (x s word : ℕ) → s < 16
-    → second (pick a (pick b (pick d (accepted (x ∷ s ∷ [])) (record { number = 5; values = word ∷ [] })) (record { number = 4; values = word ∷ [] })) (record { number = 2; values = word ∷ [] })) < 16
+    → second (cond a (cond b (cond d (accepted (x ∷ s ∷ [])) (record { number = 5; values = word ∷ [] })) (record { number = 4; values = word ∷ [] })) (record { number = 2; values = word ∷ [] })) < 16
 unfolding second
 small true true true x s word h = h
 small true true false x s word h = omega arith

@@ -16,10 +16,10 @@ use Rattle.slot_answers.specs.declared.Made.{Made}
 use Rattle.slot_answers.specs.declared.Made.the-variants as M
 use Rattle.permuter.specs.Words.{changed, madeSorted}
 use Rattle.permuter.specs.Answers.{saidChanged, saidMade}
-use Rattle.leaf.specs.declared.Entry.{Entry}
+use Rattle.leaf_entries.specs.declared.Entry.{Entry}
 use Rattle.leaf.specs.Leaf.{none, slotsOf}
-use Rattle.arena.specs.declared.inside.Lowest.{Lowest}
-use Rattle.arena.specs.declared.inside.Lowest.the-variants.{At, Nothing}
+use Rattle.lent_nodes.specs.declared.inside.Lowest.{Lowest}
+use Rattle.lent_nodes.specs.declared.inside.Lowest.the-variants.{At, Nothing}
 use Rattle.arena.specs.Layout.{wordAt, nodeStart}
 use Rattle.arena.specs.Free.{isFree, freeNodes, lowest}
 use Rattle.arena.proofs.Frees.{first-passing}

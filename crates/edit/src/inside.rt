@@ -18,12 +18,12 @@ use arena::inside::Lowest;
 use internode::Internode;
 use leaf::Entry;
 use model::Grown;
+use node_words::inside::entry_of;
+use node_words::inside::slot_of;
+use node_words::inside::word_of;
 use permuter::Changed;
 use permuter::Inserted;
 use permuter::Made;
-use seek::inside::entry_of;
-use seek::inside::slot_of;
-use seek::inside::word_of;
 
 // ---- words
 

@@ -9,9 +9,9 @@ use lib.ListN.{length, set, take, drop, replicate}
 use borrow.Author.Needs.{needs}
 use borrow.Author.Tests.{not-true, not-false}
 use Rattle.order.specs.Layer.{ikeyAt, classOf}
-use Rattle.leaf.specs.declared.Entry.{Entry}
+use Rattle.leaf_entries.specs.declared.Entry.{Entry}
 use Rattle.leaf.specs.Leaf.{less}
-use Rattle.arena.specs.declared.inside.Leaf.{Leaf}
+use Rattle.lent_nodes.specs.declared.inside.Leaf.{Leaf}
 use Rattle.arena.specs.Layout.{putLeaf}
 use Rattle.model.specs.Leaves.{freshNode, leafWith}
 use Rattle.model.specs.Needed.{bothGoOn}

@@ -6,8 +6,8 @@ use native.Mathlib.Omega.{arith}
 use lib.ListN.{set}
 use borrow.Author.Needs.{needs}
 use borrow.Author.Tests.{lt-ltb, le-ltb}
-use Rattle.internode.specs.declared.Internode.{Internode}
-use Rattle.leaf.specs.declared.Entry.{Entry}
+use Rattle.internode_places.specs.declared.Internode.{Internode}
+use Rattle.leaf_entries.specs.declared.Entry.{Entry}
 use Rattle.forest.specs.Walk.{heightAt}
 use Rattle.model.specs.declared.Grown.{Grown}
 use Rattle.model.specs.declared.Grown.the-variants.{One, Two}

@@ -10,7 +10,7 @@ ghost use Rattle.model.specs.Needed.{splitToo, needIn, bothGoOn, layersOf};
 ghost use Rattle.model.specs.Grow.{nodeGrown, layerGrown, entryFor, inOrder, linkFor, bothPut, layersGrown};
 use leaf::Entry;
 use model::Grown;
-use seek::inside::word_of;
+use node_words::inside::word_of;
 
 // ---- what is needed
 

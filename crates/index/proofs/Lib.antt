@@ -1,5 +1,4 @@
 pub mod Lent
-pub mod Cells
-pub mod Answering
+pub mod Removing
 pub mod Putting
 pub mod One

@@ -16,10 +16,10 @@ use Rattle.index.specs.declared.Added.{Added}
 use Rattle.index.specs.declared.Added.the-variants as added-is
 use Rattle.index.specs.declared.Removed.{Removed}
 use Rattle.index.specs.declared.Removed.the-variants as removed-is
-use Rattle.index.specs.declared.Found.{Found}
-use Rattle.index.specs.declared.Found.the-variants as found-is
-use Rattle.index.specs.declared.Listed.{Listed}
-use Rattle.index.specs.declared.Listed.the-variants as listed-is
+use Rattle.index_questions.specs.declared.Found.{Found}
+use Rattle.index_questions.specs.declared.Found.the-variants as found-is
+use Rattle.index_questions.specs.declared.Listed.{Listed}
+use Rattle.index_questions.specs.declared.Listed.the-variants as listed-is
 use Rattle.index.specs.Answers.{saidAdded, saidRemoved, saidFound, saidListed}
 
 -- the number and the values of equal answers

@@ -1,14 +1,15 @@
 // The label index in lent memory: clear, put, find, remove, and the k-th entry in key order. Every call but clear judges the whole of
-// lent memory first; a refused call leaves every word and byte as it was.
-mod write;
-
+// lent memory first; a refused call leaves every word and byte as it was. Find and k-th are passed on from the crate of the questions.
 ghost use mathlib.Core.Path.{_≡_};
 ghost use Rattle.arena.specs.Memory.{memory, did, cleared, saidCleared};
-ghost use Rattle.model.specs.Calls.{findSaid, kthSaid, removed, putDone};
-ghost use Rattle.index.specs.Answers.{saidAdded, saidRemoved, saidFound, saidListed};
+ghost use Rattle.model.specs.Calls.{removed, putDone};
+ghost use Rattle.index.specs.Answers.{saidAdded, saidRemoved};
 use arena::Cleared;
+pub use index_questions::Found;
+pub use index_questions::Listed;
+pub use index_questions::find;
+pub use index_questions::kth;
 use model::Met;
-use model::Reached;
 use refusal::Refusal;
 
 // The most bytes that a key has.
@@ -24,59 +25,11 @@ pub enum Removed {
     Refused(Refusal),
 }
 
-// The frame number of a key.
-pub enum Found {
-    Frame(u64),
-    Refused(Refusal),
-}
-
-// The k-th entry: its cell, the length of its key, its frame number. The key's bytes are the caller's own, in that cell.
-pub enum Listed {
-    Entry { cell: u64, length: u64, frame: u64 },
-    Refused(Refusal),
-}
-
 // Leaves node 0, an empty leaf, as root, and everything else zero.
 pub fn clear(nodes: &mut [u64], cells: &mut [u64], bytes: &mut [u8]) -> Cleared
     ensures { λ r. ⌜ did (saidCleared r) (memory (now (nodes .exit)) (now (cells .exit)) (now (bytes .exit))) ≡ cleared (memory (now (nodes .entry)) (now (cells .entry)) (now (bytes .entry))) ⌝ }
 {
     arena::clear(nodes, cells, bytes)
-}
-
-// The frame number stored with a key.
-pub fn find(nodes: &[u64], cells: &[u64], bytes: &[u8], key: &[u8]) -> Found
-    ensures { λ r. ⌜ saidFound r ≡ findSaid (memory (now (nodes .entry)) (now (cells .entry)) (now (bytes .entry))) (now (key .entry)) ⌝ }
-{
-    if LONGEST < key.len() {
-        return Found::Refused(Refusal::Key);
-    }
-    if !audit::is_tree(nodes, cells, bytes) {
-        return Found::Refused(Refusal::Memory);
-    }
-    let met = seek::inside::seek(nodes, cells, bytes, key, 0, 0, nodes[0]);
-    if let Met::Stored {
-        leaf: _,
-        position: _,
-        cell,
-    } = met {
-        let frame = arena::inside::frame(cells, cell as usize);
-        return Found::Frame(frame);
-    }
-    Found::Refused(Refusal::Missing)
-}
-
-// The k-th entry in key order.
-pub fn kth(nodes: &[u64], cells: &[u64], bytes: &[u8], k: u64) -> Listed
-    ensures { λ r. ⌜ saidListed r ≡ kthSaid (memory (now (nodes .entry)) (now (cells .entry)) (now (bytes .entry))) k ⌝ }
-{
-    if !audit::is_tree(nodes, cells, bytes) {
-        return Listed::Refused(Refusal::Memory);
-    }
-    let reached = seek::inside::kth_layer(nodes, 0, nodes[0], k);
-    if let Reached::Here(cell) = reached {
-        return write::entry_at(cells, cell);
-    }
-    Listed::Refused(Refusal::Missing)
 }
 
 // A key less.
@@ -120,9 +73,9 @@ pub fn put(nodes: &mut [u64], cells: &mut [u64], bytes: &mut [u8], key: &[u8], f
     } = met {
         return Added::Refused(Refusal::Stored);
     }
-    if !write::has_room(nodes, cells, bytes, key, met) {
+    if !store::inside::has_room(nodes, cells, bytes, key, met) {
         return Added::Refused(Refusal::Room);
     }
-    write::put_new(nodes, cells, bytes, key, frame, met);
+    store::inside::put_new(nodes, cells, bytes, key, frame, met);
     Added::Done
 }

@@ -1,6 +1,6 @@
 -- What each call of the index answers, and what it leaves in lent memory.
 use Prim.Native.Nat.{ℕ, suc, _+_, _-_}
-use mathlib.Core.Bool.{Bool, true, false, not, _&&_}
+use mathlib.Core.Bool.{Bool, true, false, cond, not, _&&_}
 use mathlib.Core.List.{List, [], _∷_}
 use lib.Dec.{leb, ltb, eqb}
 use lib.ListN.{length, getD, set}
@@ -11,7 +11,6 @@ use Rattle.arena.specs.Memory.{Memory, memory, nodeCount, cellCount, Did, did}
 use Rattle.bank.specs.Bank.{slotAt}
 use Rattle.order.specs.Layer.{ikeyAt}
 use Rattle.forest.specs.Nodes.{slotsAt}
-use Rattle.forest.specs.Trees.{choose}
 use Rattle.forest.specs.Walk.{heightAt, isTree}
 use Rattle.model.specs.declared.Met.{Met}
 use Rattle.model.specs.declared.Met.the-variants.{Stored, Conflict, Missing}
@@ -82,7 +81,7 @@ without m (Conflict leaf position cell links) = m
 without m (Missing holder root links) = m
 
 abbrev pub whenAccepted : Answer → Memory → Memory → Memory
-whenAccepted a after before = choose (eqb (a .number) 0) after before
+whenAccepted a after before = cond (eqb (a .number) 0) after before
 
 -- remove: 12 unless the key is stored
 abbrev pub removeSaid : Memory → List ℕ → Answer

@@ -1,13 +1,13 @@
 -- A layer with an entry more, and the layers that a conflict makes.
 use Prim.Native.Nat.{ℕ, zero, suc, _+_, _*_}
+use mathlib.Core.Bool.{cond}
 use mathlib.Core.List.{List, [], _∷_}
 use lib.Dec.{ltb}
 use lib.ListN.{length, set}
 use Rattle.order.specs.Layer.{ikeyAt, classAt}
-use Rattle.leaf.specs.declared.Entry.{Entry}
+use Rattle.leaf_entries.specs.declared.Entry.{Entry}
 use Rattle.leaf.specs.Leaf.{less}
 use Rattle.arena.specs.Layout.{nodeStart, putLeaf}
-use Rattle.forest.specs.Trees.{choose}
 use Rattle.forest.specs.Walk.{heightAt}
 use Rattle.model.specs.Down.{childFor}
 use Rattle.model.specs.Leaves.{freshNode, leafWith, leafGrown}
@@ -23,9 +23,9 @@ parentGrown count n (nodes, Two ikey child) = internodeGrown nodes count n ikey 
 
 -- an entry more below node n of this height; beyond the last node nothing changes
 unfoldable pub nodeGrown : List ℕ → ℕ → ℕ → ℕ → Entry → List ℕ × Grown
-nodeGrown nodes count zero n e = choose (ltb n count) (leafGrown nodes count n e) (nodes, One)
+nodeGrown nodes count zero n e = cond (ltb n count) (leafGrown nodes count n e) (nodes, One)
 nodeGrown nodes count (suc h) n e =
-    choose (ltb n count) (parentGrown count n (nodeGrown nodes count h (childFor nodes n (e .ikey)) e)) (nodes, One)
+    cond (ltb n count) (parentGrown count n (nodeGrown nodes count h (childFor nodes n (e .ikey)) e)) (nodes, One)
 
 -- a root that became two gets a new root over it, whose number goes where the root's was
 abbrev pub rootGrown : ℕ → ℕ → ℕ → List ℕ × Grown → List ℕ
@@ -47,7 +47,7 @@ entryFor key cell links =
 
 -- two entries in order
 abbrev pub inOrder : Entry → Entry → List Entry
-inOrder a b = choose (less a b) (a ∷ b ∷ []) (b ∷ a ∷ [])
+inOrder a b = cond (less a b) (a ∷ b ∷ []) (b ∷ a ∷ [])
 
 -- the link of a single-link leaf; the number of the layer below follows
 abbrev pub linkFor : List ℕ → ℕ → Entry
@@ -69,7 +69,7 @@ unfoldable pub layersGrown : ℕ → List ℕ → ℕ → ℕ → Label → Labe
 layersGrown zero nodes count holder a b links =
     bothPut (set nodes holder (freshNode nodes count)) (freshNode nodes count) a b links
 layersGrown (suc l) nodes count holder a b links =
-    choose (bothGoOn (a .key) (b .key) links)
+    cond (bothGoOn (a .key) (b .key) links)
     (layersGrown l
     (putLeaf (set nodes holder (freshNode nodes count)) (freshNode nodes count) (leafWith (linkFor (a .key) links ∷ [])))
     count (nodeStart (freshNode nodes count) + 32) a b (suc links))

@@ -1,15 +1,15 @@
 -- An internode of lent memory with a child more: in one node, or in two.
 use Prim.Native.Nat.{ℕ, _+_}
+use mathlib.Core.Bool.{cond}
 use mathlib.Core.List.{List, [], _∷_}
 use lib.Dec.{ltb}
-use Rattle.internode.specs.declared.Internode as internode
+use Rattle.internode_places.specs.declared.Internode as internode
 use Rattle.internode.specs.Node.{childPlace, inserted}
 use Rattle.internode.specs.Split.{nodeOf, splitOf}
-use Rattle.arena.specs.declared.inside.Internode as arena
+use Rattle.lent_nodes.specs.declared.inside.Internode as arena
 use Rattle.arena.specs.Parts.{part}
 use Rattle.arena.specs.Layout.{nodeStart, putInternode}
 use Rattle.forest.specs.Nodes.{countAt}
-use Rattle.forest.specs.Trees.{choose}
 use Rattle.model.specs.Leaves.{freshNode}
 use Rattle.model.specs.declared.Grown.{Grown}
 use Rattle.model.specs.declared.Grown.the-variants.{One, Two}
@@ -38,8 +38,8 @@ internodeSplit nodes count k p ikey child = (
 -- a child more, right of its ikey; an internode has at most 15
 unfoldable pub internodeGrown : List ℕ → ℕ → ℕ → ℕ → ℕ → List ℕ × Grown
 internodeGrown nodes count k ikey child =
-    choose (ltb 15 (countAt nodes k)) (nodes, One)
-    (choose (ltb (countAt nodes k) 15)
+    cond (ltb 15 (countAt nodes k)) (nodes, One)
+    (cond (ltb (countAt nodes k) 15)
     (internodePut nodes k (inserted (internodeIn nodes k) (childPlace (internodeIn nodes k) ikey) ikey child), One)
     (internodeSplit nodes count k (childPlace (internodeIn nodes k) ikey) ikey child))
 

@@ -1,6 +1,6 @@
 -- A leaf of lent memory with an entry less, or with an entry more: in one node, or in two.
 use Prim.Native.Nat.{ℕ, _+_, _-_}
-use mathlib.Core.Bool.{Bool}
+use mathlib.Core.Bool.{Bool, cond}
 use mathlib.Core.List.{List, [], _∷_, _++_, map}
 use lib.Dec.{eqb}
 use lib.ListN.{length, getD, set, take, drop}
@@ -8,16 +8,15 @@ use Rattle.refusal.specs.Answer.{Answer}
 use Rattle.bank.specs.Bank.{slotAt}
 use Rattle.bank.specs.Calls.{Change, insertFromBack, remove}
 use Rattle.permuter.specs.Words.{changed, madeSorted}
-use Rattle.leaf.specs.declared.Entry.{Entry}
+use Rattle.leaf_entries.specs.declared.Entry.{Entry}
 use Rattle.leaf.specs.Leaf.{none, rank}
 use Rattle.leaf.specs.Search.{placeGreater}
 use Rattle.leaf.specs.Cut.{ikeyOf, cutOf}
-use Rattle.arena.specs.declared.inside.Leaf.{Leaf}
+use Rattle.lent_nodes.specs.declared.inside.Leaf.{Leaf}
 use Rattle.arena.specs.Parts.{zeros}
 use Rattle.arena.specs.Layout.{nodeStart, wordAt, putLeaf}
 use Rattle.arena.specs.Free.{freeNodes}
 use Rattle.forest.specs.Nodes.{entryAt, entriesAt, slotsAt}
-use Rattle.forest.specs.Trees.{choose}
 use Rattle.model.specs.declared.Grown.{Grown}
 use Rattle.model.specs.declared.Grown.the-variants.{One, Two}
 
@@ -66,7 +65,7 @@ leafSplit nodes count k es = (
 -- an entry more at a position: by `insert_from_back` where the leaf has room
 unfoldable pub entryAdded : List ℕ → ℕ → ℕ → ℕ → Entry → List ℕ × Grown
 entryAdded nodes count k p e =
-    choose (eqb (slotCall nodes k (insertFromBack p) .number) 0)
+    cond (eqb (slotCall nodes k (insertFromBack p) .number) 0)
     (entryPut (wordPut nodes k (slotCall nodes k (insertFromBack p))) k (getD (slotCall nodes k (insertFromBack p) .values) 1 0) e, One)
     (leafSplit nodes count k (take p (fifteenAt nodes k) ++ e ∷ drop p (fifteenAt nodes k)))
 

@@ -1,11 +1,12 @@
 -- The cells in key order, by the layer walk and the node walk.
 use Prim.Native.Nat.{ℕ, zero, suc, _-_}
-use mathlib.Core.Bool.{Bool, true, false}
+use mathlib.Core.Bool.{cond}
 use mathlib.Core.List.{List, [], _∷_, map}
 use lib.Dec.{ltb}
 use lib.ListN.{length, getD}
+use Rattle.order.specs.Lists.{flattened}
 use Rattle.forest.specs.Nodes.{entriesAt, childrenAt}
-use Rattle.forest.specs.Trees.{Key, Ref, cell, link, choose, seenAs, joined}
+use Rattle.forest.specs.Trees.{Key, Ref, cell, link, seenAs}
 use Rattle.forest.specs.Walk.{heightAt}
 use Rattle.model.specs.declared.Reached.{Reached}
 use Rattle.model.specs.declared.Reached.the-variants.{Here, Beyond}
@@ -17,12 +18,12 @@ cellsOf below (link root) = below root
 
 -- a leaf's
 unfoldable pub cellsOfLeaf : (ℕ → List ℕ) → List ℕ → ℕ → List ℕ
-cellsOfLeaf below nodes n = joined (λ e. cellsOf below (e .1)) (map seenAs (entriesAt nodes n))
+cellsOfLeaf below nodes n = flattened (λ e. cellsOf below (e .1)) (map seenAs (entriesAt nodes n))
 
 -- those of a node of this height, the layers below handed in
 unfoldable pub cellsOfNode : (ℕ → List ℕ) → List ℕ → ℕ → ℕ → List ℕ
 cellsOfNode below nodes zero n = cellsOfLeaf below nodes n
-cellsOfNode below nodes (suc h) n = joined (cellsOfNode below nodes h) (childrenAt nodes n)
+cellsOfNode below nodes (suc h) n = flattened (cellsOfNode below nodes h) (childrenAt nodes n)
 
 -- those of the layer of this root
 unfoldable pub cellsOfOne : (ℕ → List ℕ) → List ℕ → ℕ → List ℕ
@@ -35,4 +36,4 @@ cellsOfLayer (suc l) nodes root = cellsOfOne (cellsOfLayer l nodes) nodes root
 
 -- the k-th of these cells, or how many more there are to go behind them
 unfoldable pub reach : ℕ → List ℕ → Reached
-reach k cells = choose (ltb k (length cells)) (Here (getD cells k 0)) (Beyond (k - length cells))
+reach k cells = cond (ltb k (length cells)) (Here (getD cells k 0)) (Beyond (k - length cells))

@@ -1,19 +1,18 @@
 -- Where a key is, or where it would go: layer by layer, until an entry is no link.
 use Prim.Native.Nat.{ℕ, zero, suc, _+_, _*_}
-use mathlib.Core.Bool.{Bool, _&&_}
+use mathlib.Core.Bool.{Bool, cond, _&&_}
 use mathlib.Core.List.{List}
 use lib.Dec.{ltb, eqb}
 use lib.ListN.{length, getD}
 use Rattle.bank.specs.Bank.{slotAt}
 use Rattle.order.specs.Layer.{ikeyAt, classAt}
-use Rattle.leaf.specs.declared.Entry.{Entry}
+use Rattle.leaf_entries.specs.declared.Entry.{Entry}
 use Rattle.leaf.specs.Leaf.{none}
 use Rattle.leaf.specs.Search.{sameBytes, placeEqual}
 use Rattle.arena.specs.Parts.{part}
 use Rattle.arena.specs.Layout.{nodeStart, keyStart, markAt}
 use Rattle.arena.specs.Memory.{Memory}
 use Rattle.forest.specs.Nodes.{entriesAt, slotsAt}
-use Rattle.forest.specs.Trees.{choose}
 use Rattle.model.specs.Down.{leafIn}
 use Rattle.model.specs.declared.Met.{Met}
 use Rattle.model.specs.declared.Met.the-variants.{Stored, Conflict, Missing}
@@ -30,14 +29,14 @@ numberWord nodes leaf position = nodeStart leaf + 32 + slotAt position (slotsAt 
 -- at the entry of the key's ikey and class: the layer below a link, the key itself, or another key that is longer too
 unfoldable pub meetEntry : (ℕ → ℕ → ℕ → Met) → Memory → List ℕ → ℕ → ℕ → ℕ → Entry → Met
 meetEntry below m key links leaf p e =
-    choose (eqb (e .class) 10) (below (suc links) (numberWord (m .nodes) leaf p) (e .at))
-    (choose (hasKey (m .cells) (m .bytes) (e .at) key) (Stored leaf p (e .at)) (Conflict leaf p (e .at) links))
+    cond (eqb (e .class) 10) (below (suc links) (numberWord (m .nodes) leaf p) (e .at))
+    (cond (hasKey (m .cells) (m .bytes) (e .at) key) (Stored leaf p (e .at)) (Conflict leaf p (e .at) links))
 
 -- in the leaf that the key's ikey leads to
 unfoldable pub meetLeaf : (ℕ → ℕ → ℕ → Met) → Memory → List ℕ → ℕ → ℕ → ℕ → ℕ → Met
 meetLeaf below m key links holder root leaf =
     let p = placeEqual (ikeyAt key (8 * links)) (classAt key (8 * links)) (entriesAt (m .nodes) leaf) in
-    choose (ltb p (length (entriesAt (m .nodes) leaf)))
+    cond (ltb p (length (entriesAt (m .nodes) leaf)))
     (meetEntry below m key links leaf p (getD (entriesAt (m .nodes) leaf) p none))
     (Missing holder root links)
 

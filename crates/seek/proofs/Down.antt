@@ -1,7 +1,7 @@
 -- Down a layer: a law for each way in which a step returns. Assumes nothing.
 use Prim.Native.Nat.{ℕ, zero, suc, _+_, _*_, _-_, _%_, _≤_, _<_}
 use mathlib.Core.Path.{_≡_, refl, sym, ap, _∙_}
-use mathlib.Core.Bool.{Bool, true, false}
+use mathlib.Core.Bool.{Bool, true, false, cond}
 use mathlib.Core.List.{List, [], _∷_, _++_}
 use native.Mathlib.Numerals.{add-one}
 use native.Mathlib.Omega.{arith}
@@ -17,7 +17,7 @@ use Rattle.ikey.specs.declared.Ordering.{Ordering as Ordered}
 use Rattle.ikey.specs.declared.Ordering.the-variants.{Less, Equal, Greater}
 use Rattle.ikey.specs.Said.{orderOf}
 use Rattle.internode.specs.Lists.{oneMoreOr, afterLast}
-use Rattle.leaf.specs.declared.Entry.{Entry}
+use Rattle.leaf_entries.specs.declared.Entry.{Entry}
 use Rattle.leaf.specs.Leaf.{none, slotsOf, against}
 use Rattle.leaf.specs.Search.{placeEqual}
 use Rattle.leaf.proofs.Lists.{first-at, first-none}
@@ -25,11 +25,11 @@ use Rattle.arena.specs.Parts.{part}
 use Rattle.arena.specs.Layout.{nodeStart, wordAt, kindAt}
 use Rattle.arena.proofs.Words.{part-length, part-at}
 use Rattle.forest.specs.Nodes.{entryAt, entriesAt, ikeysAt, childrenAt}
-use Rattle.forest.specs.Trees.{choose}
 use Rattle.forest.specs.Walk.{heightAt}
 use Rattle.model.specs.Down.{childFor, leafFor, leafIn}
 use Rattle.seek.specs.Places.{placeAmong}
-use Rattle.seek.proofs.Words.{words, entries-length, entry-here}
+use Rattle.seek.proofs.InUse.{entries-length, entry-here}
+use Rattle.node_words.proofs.Words.{words}
 
 -- ---- the place after the last ikey that is not above
 
@@ -160,7 +160,7 @@ unfolding heightAt
 height-most nodes zero n = omega arith
 height-most nodes (suc most) n = by (eqb (kindAt nodes n) 2) (height-most nodes most (getD (childrenAt nodes n) 0 0))
   where
-    by : (b : Bool) {h : ℕ} → h ≤ most → choose b (suc h) 0 ≤ suc most
+    by : (b : Bool) {h : ℕ} → h ≤ most → cond b (suc h) 0 ≤ suc most
     by true l = omega arith
     by false l = omega arith
 

@@ -1,5 +1,5 @@
 pub mod Lengths
-pub mod Words
+pub mod InUse
 pub mod Down
 pub mod Seeks
 pub mod Reaches

@@ -10,19 +10,20 @@ use lib.ListN.{length, getD, drop, length-append, length-take, length-drop, drop
 use lib.Seq.{drop-cons, getD-append-add}
 use borrow.Author.Tests.{lt-ltb, le-ltb, eq-eqb, ne-eqb}
 use Rattle.bank.specs.Bank.{slotAt}
-use Rattle.leaf.specs.declared.Entry.{Entry}
+use Rattle.order.specs.Lists.{flattened}
+use Rattle.leaf_entries.specs.declared.Entry.{Entry}
 use Rattle.leaf.specs.Leaf.{none, slotsOf}
 use Rattle.arena.specs.Parts.{part}
 use Rattle.arena.specs.Layout.{nodeStart, wordAt}
 use Rattle.arena.proofs.Words.{part-at}
 use Rattle.forest.specs.Nodes.{entryAt, entriesAt, childrenAt}
-use Rattle.forest.specs.Trees.{Key, Ref, cell, link, choose, seenAs, joined}
+use Rattle.forest.specs.Trees.{Key, Ref, cell, link, seenAs}
 use Rattle.forest.specs.Walk.{heightAt}
 use Rattle.model.specs.declared.Reached.{Reached}
 use Rattle.model.specs.declared.Reached.the-variants.{Here, Beyond}
 use Rattle.model.specs.Listed.{cellsOf, cellsOfLeaf, cellsOfNode, cellsOfOne, cellsOfLayer, reach}
 use Rattle.seek.specs.Below.{layersBelow, cellsAt}
-use Rattle.seek.proofs.Words.{entries-length, entry-here}
+use Rattle.seek.proofs.InUse.{entries-length, entry-here}
 use Rattle.seek.proofs.Down.{downs}
 
 -- ---- how many children there are, and each of them
@@ -117,22 +118,22 @@ none-left k = rw (le-ltb k 0 (omega arith)) (ap Beyond (let z : k - 0 ≡ k = om
 -- ---- lists of cells one after another
 
 split : {A : Type 0} (cells : A → List ℕ) (xs : List A) (d : A) (i : ℕ) → i < length xs
-    → joined cells (drop i xs) ≡ cells (getD xs i d) ++ joined cells (drop (i + 1) xs)
+    → flattened cells (drop i xs) ≡ cells (getD xs i d) ++ flattened cells (drop (i + 1) xs)
 split cells xs d i l = rw (add-one i, drop-cons xs i d l)
 
 module _ {A : Type 0} (cells : A → List ℕ) (xs : List A) (d : A) (i left : ℕ) {total : Reached}
-    (inv : total ≡ reach left (joined cells (drop i xs))) where
+    (inv : total ≡ reach left (flattened cells (drop i xs))) where
   walk-here : i < length xs → {r : Reached} → r ≡ reach left (cells (getD xs i d)) → {c : ℕ} → r ≡ Here c → Here c ≡ total
   walk-here l e q =
-      sym (inv ∙ ap (reach left) (split cells xs d i l) ∙ join-here left (cells (getD xs i d)) (joined cells (drop (i + 1) xs)) e q)
+      sym (inv ∙ ap (reach left) (split cells xs d i l) ∙ join-here left (cells (getD xs i d)) (flattened cells (drop (i + 1) xs)) e q)
 
   walk-on : i < length xs → {r : Reached} → r ≡ reach left (cells (getD xs i d)) → {more : ℕ} → r ≡ Beyond more
-      → total ≡ reach more (joined cells (drop (i + 1) xs))
+      → total ≡ reach more (flattened cells (drop (i + 1) xs))
   walk-on l e q =
-      inv ∙ ap (reach left) (split cells xs d i l) ∙ join-on left (cells (getD xs i d)) (joined cells (drop (i + 1) xs)) e q
+      inv ∙ ap (reach left) (split cells xs d i l) ∙ join-on left (cells (getD xs i d)) (flattened cells (drop (i + 1) xs)) e q
 
   walk-end : length xs ≤ i → Beyond left ≡ total
-  walk-end l = sym (inv ∙ ap (λ (ys : List A). reach left (joined cells ys)) (drop-of-length-le xs l) ∙ none-left left)
+  walk-end l = sym (inv ∙ ap (λ (ys : List A). reach left (flattened cells ys)) (drop-of-length-le xs l) ∙ none-left left)
 
 -- ---- a node
 
@@ -143,12 +144,12 @@ module _ (below : ℕ → List ℕ) (nodes : List ℕ) (height n k : ℕ) where
   node-leaf h e = rw h e
 
   pub node-start : (height ≡ 0 → ⊥) → reach k (cellsOfNode below nodes height n)
-      ≡ reach k (joined (cellsOfNode below nodes (height - 1)) (drop 0 (childrenAt nodes n)))
+      ≡ reach k (flattened (cellsOfNode below nodes (height - 1)) (drop 0 (childrenAt nodes n)))
   unfolding cellsOfNode
   node-start h = ap (λ (m : ℕ). reach k (cellsOfNode below nodes m n)) (let z : height ≡ suc (height - 1) = omega arith in z)
 
 module _ (below : ℕ → List ℕ) (nodes : List ℕ) (h n i left : ℕ) {total : Reached}
-    (inv : total ≡ reach left (joined (cellsOfNode below nodes h) (drop i (childrenAt nodes n)))) {many : ℕ}
+    (inv : total ≡ reach left (flattened (cellsOfNode below nodes h) (drop i (childrenAt nodes n)))) {many : ℕ}
     (em : many ≡ length (childrenAt nodes n)) where
   module _ (l : i < many) {child : ℕ} (ec : child ≡ getD (childrenAt nodes n) i 0) {r : Reached}
       (er : r ≡ reach left (cellsOfNode below nodes h child)) where
@@ -159,7 +160,7 @@ module _ (below : ℕ → List ℕ) (nodes : List ℕ) (h n i left : ℕ) {total
     node-here q = walk-here (cellsOfNode below nodes h) (childrenAt nodes n) 0 i left inv (omega arith) told q
 
     pub node-on : {more : ℕ} → r ≡ Beyond more
-        → total ≡ reach more (joined (cellsOfNode below nodes h) (drop (i + 1) (childrenAt nodes n)))
+        → total ≡ reach more (flattened (cellsOfNode below nodes h) (drop (i + 1) (childrenAt nodes n)))
     node-on q = walk-on (cellsOfNode below nodes h) (childrenAt nodes n) 0 i left inv (omega arith) told q
 
   pub node-end : many ≤ i → Beyond left ≡ total
@@ -167,19 +168,19 @@ module _ (below : ℕ → List ℕ) (nodes : List ℕ) (h n i left : ℕ) {total
 
 -- ---- a leaf
 
-joined-seen : (below : ℕ → List ℕ) (es : List Entry)
-    → joined (λ (e : Key × Ref). cellsOf below (e .1)) (map seenAs es) ≡ joined (cellsAt below) es
+flattened-seen : (below : ℕ → List ℕ) (es : List Entry)
+    → flattened (λ (e : Key × Ref). cellsOf below (e .1)) (map seenAs es) ≡ flattened (cellsAt below) es
 unfolding cellsAt
-joined-seen below [] = refl
-joined-seen below (e ∷ es) = ap (λ (ys : List ℕ). cellsAt below e ++ ys) (joined-seen below es)
+flattened-seen below [] = refl
+flattened-seen below (e ∷ es) = ap (λ (ys : List ℕ). cellsAt below e ++ ys) (flattened-seen below es)
 
 module _ (below : ℕ → List ℕ) (nodes : List ℕ) (n k : ℕ) where
-  pub leaf-start : reach k (cellsOfLeaf below nodes n) ≡ reach k (joined (cellsAt below) (drop 0 (entriesAt nodes n)))
+  pub leaf-start : reach k (cellsOfLeaf below nodes n) ≡ reach k (flattened (cellsAt below) (drop 0 (entriesAt nodes n)))
   unfolding cellsOfLeaf
-  leaf-start = ap (reach k) (joined-seen below (entriesAt nodes n))
+  leaf-start = ap (reach k) (flattened-seen below (entriesAt nodes n))
 
 module _ (below : ℕ → List ℕ) (nodes : List ℕ) (n i left : ℕ) {total : Reached}
-    (inv : total ≡ reach left (joined (cellsAt below) (drop i (entriesAt nodes n)))) {word : ℕ} (w : word ≡ wordAt nodes n 1) where
+    (inv : total ≡ reach left (flattened (cellsAt below) (drop i (entriesAt nodes n)))) {word : ℕ} (w : word ≡ wordAt nodes n 1) where
   module _ (l : i < word % 16) {slot : ℕ} (s : slot ≡ slotAt i (slotsOf word)) {e : Entry}
       (d : e ≡ entryAt nodes n slot) {r : Reached} (er : r ≡ reach left (cellsAt below e)) where
     said : r ≡ reach left (cellsAt below (getD (entriesAt nodes n) i none))
@@ -188,7 +189,7 @@ module _ (below : ℕ → List ℕ) (nodes : List ℕ) (n i left : ℕ) {total :
     pub leaf-here : {c : ℕ} → r ≡ Here c → Here c ≡ total
     leaf-here q = walk-here (cellsAt below) (entriesAt nodes n) none i left inv (omega (arith, entries-length nodes n word w)) said q
 
-    pub leaf-on : {more : ℕ} → r ≡ Beyond more → total ≡ reach more (joined (cellsAt below) (drop (i + 1) (entriesAt nodes n)))
+    pub leaf-on : {more : ℕ} → r ≡ Beyond more → total ≡ reach more (flattened (cellsAt below) (drop (i + 1) (entriesAt nodes n)))
     leaf-on q = walk-on (cellsAt below) (entriesAt nodes n) none i left inv (omega (arith, entries-length nodes n word w)) said q
 
   pub leaf-done : word % 16 ≤ i → Beyond left ≡ total

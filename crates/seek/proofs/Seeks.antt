@@ -1,7 +1,7 @@
 -- To a key: a law for each way in which the search of a cell, and the way down the layers, returns. Assumes nothing.
 use Prim.Native.Nat.{ℕ, zero, suc, _+_, _*_, _-_, _/_, _%_, _≤_, _<_}
 use mathlib.Core.Path.{_≡_, refl, sym, ap, ap₂, _∙_, subst}
-use mathlib.Core.Bool.{Bool, true, false}
+use mathlib.Core.Bool.{Bool, true, false, cond}
 use mathlib.Core.List.{List}
 use native.Mathlib.Decide.{decLt}
 use native.Mathlib.Omega.{arith}
@@ -14,7 +14,7 @@ use Rattle.order.specs.Layer.{ikeyAt, classAt}
 use Rattle.ikey.specs.declared.Ordering.{Ordering as Ordered}
 use Rattle.ikey.specs.declared.Ordering.the-variants.{Less, Equal, Greater}
 use Rattle.ikey.specs.Said.{orderOf}
-use Rattle.leaf.specs.declared.Entry.{Entry}
+use Rattle.leaf_entries.specs.declared.Entry.{Entry}
 use Rattle.leaf.specs.Leaf.{none, slotsOf}
 use Rattle.leaf.specs.Search.{placeEqual}
 use Rattle.leaf.proofs.Lists.{never}
@@ -22,14 +22,13 @@ use Rattle.arena.specs.Parts.{part}
 use Rattle.arena.specs.Layout.{nodeStart, wordAt, cellStart, markAt}
 use Rattle.arena.specs.Memory.{Memory, memory, nodeCount, cellCount}
 use Rattle.forest.specs.Nodes.{entryAt, entriesAt}
-use Rattle.forest.specs.Trees.{choose}
 use Rattle.model.specs.declared.Met.{Met}
 use Rattle.model.specs.declared.Met.the-variants.{Stored, Conflict, Missing}
 use Rattle.model.specs.Down.{leafIn}
 use Rattle.model.specs.Meet.{hasKey, numberWord, meetEntry, meetLeaf, meetOne, meet}
 use Rattle.seek.specs.Lengths.{NodesLent, CellsLent}
 use Rattle.seek.specs.Within.{Within}
-use Rattle.seek.proofs.Words.{entries-length, entry-here, in-memory}
+use Rattle.seek.proofs.InUse.{entries-length, entry-here, in-memory}
 use Rattle.seek.proofs.Down.{downs}
 
 -- ---- a cell's key
@@ -90,7 +89,7 @@ module _ (nodes cells bytes key : List ℕ) (links holder root : ℕ) {leaf p wo
   m = memory nodes cells bytes
 
   opened : (l : ℕ) → meet l m key links holder root
-      ≡ choose (ltb p (word % 16)) (meetEntry (below m key l) m key links leaf p (getD (entriesAt nodes leaf) p none))
+      ≡ cond (ltb p (word % 16)) (meetEntry (below m key l) m key links leaf p (getD (entriesAt nodes leaf) p none))
       (Missing holder root links)
   unfolding meetLeaf
   opened l = one m key l links holder root ∙ rw (← el, ← ep, entries-length nodes leaf word w)

@@ -1,7 +1,7 @@
 -- The cells of an entry, and those of the layers below a link.
 use Prim.Native.Nat.{ℕ, zero, suc}
 use mathlib.Core.List.{List, []}
-use Rattle.leaf.specs.declared.Entry.{Entry}
+use Rattle.leaf_entries.specs.declared.Entry.{Entry}
 use Rattle.forest.specs.Trees.{seenAs}
 use Rattle.model.specs.Listed.{cellsOf, cellsOfLayer}
 

@@ -3,7 +3,7 @@ use native.Mathlib.Omega.{arith}
 use borrow.Author.Tests.{not-true, not-false}
 use borrow.Author.Needs.{needs}
 use Rattle.index.proofs.Lent.{tree-root, tree-seek, stored-entry, stored-cell}
-use Rattle.index.proofs.Answering.{remove-long, remove-unfit, remove-none, remove-done}
+use Rattle.index.proofs.Removing.{remove-long, remove-unfit, remove-none, remove-done}
 use Rattle.index.proofs.remove.Statement.{statement}
 use Rattle.index.proofs.remove.Tie as tie
 

@@ -20,12 +20,12 @@ use Rattle.seek.proofs.inside.kth_node.Kinds as kth-node-kinds
 use Rattle.seek.proofs.inside.+kth_entry+kth_layer+kth_leaf+kth_node.Lts-kth_node as kth-node-lts
 use Rattle.seek.proofs.inside.child_at.Reads as child-at-reads
 use Rattle.seek.proofs.inside.children_of.Reads as children-of-reads
-use Rattle.seek.proofs.inside.entry_of.Reads as entry-of-reads
+use Rattle.node_words.proofs.inside.entry_of.Reads as entry-of-reads
 use Rattle.seek.proofs.inside.height_of.Reads as height-of-reads
-use Rattle.seek.proofs.inside.slot_of.Reads as slot-of-reads
-use Rattle.seek.proofs.inside.word_of.Reads as word-of-reads
+use Rattle.node_words.proofs.inside.slot_of.Reads as slot-of-reads
+use Rattle.node_words.proofs.inside.word_of.Reads as word-of-reads
+use Rattle.order.specs.Lists.{flattened}
 use Rattle.forest.specs.Nodes.{entriesAt, childrenAt}
-use Rattle.forest.specs.Trees.{joined}
 use Rattle.model.specs.Listed.{cellsOfLeaf, cellsOfNode, reach}
 use Rattle.seek.specs.Below.{layersBelow, cellsAt}
 use Rattle.seek.proofs.Reaches.{reaches}
@@ -106,7 +106,7 @@ abbrev kth-leaf-Inv-loop : kth-leaf-lts.InvT-loop
 kth-leaf-Inv-loop nodes links n k word size left₀ i₀ left i =
     (i ≤ size)
     × (reach k (cellsOfLeaf (layersBelow (31 - links) nodes) nodes n)
-    ≡ reach left (joined (cellsAt (layersBelow (31 - links) nodes)) (drop i (entriesAt nodes n))))
+    ≡ reach left (flattened (cellsAt (layersBelow (31 - links) nodes)) (drop i (entriesAt nodes n))))
 
 abbrev kth-leaf-μ-loop : kth-leaf-lts.MeasureT-loop
 kth-leaf-μ-loop nodes links n k word size left₀ i₀ left i = size - i
@@ -115,7 +115,7 @@ abbrev kth-node-Inv-loop : kth-node-lts.InvT-loop
 kth-node-Inv-loop nodes links height n k many left₀ i₀ left i =
     (i ≤ many)
     × (reach k (cellsOfNode (layersBelow (31 - links) nodes) nodes height n)
-    ≡ reach left (joined (cellsOfNode (layersBelow (31 - links) nodes) nodes (height - 1)) (drop i (childrenAt nodes n))))
+    ≡ reach left (flattened (cellsOfNode (layersBelow (31 - links) nodes) nodes (height - 1)) (drop i (childrenAt nodes n))))
 
 abbrev kth-node-μ-loop : kth-node-lts.MeasureT-loop
 kth-node-μ-loop nodes links height n k many left₀ i₀ left i = many - i

@@ -6,12 +6,12 @@ use borrow.Fn.PlainCycle.{Measures, is, falls, and}
 use Rattle.seek.proofs.inside.seek.Reads as seek
 use Rattle.seek.proofs.inside.seek.Kinds as seek-kinds
 use Rattle.seek.proofs.inside.+seek.Lts-seek as seek-lts
-use Rattle.seek.proofs.inside.entry_of.Reads as entry-of-reads
+use Rattle.node_words.proofs.inside.entry_of.Reads as entry-of-reads
 use Rattle.seek.proofs.inside.has_key.Reads as has-key-reads
 use Rattle.seek.proofs.inside.number_word.Reads as number-word-reads
 use Rattle.seek.proofs.inside.place_in.Reads as place-in-reads
-use Rattle.seek.proofs.inside.slot_of.Reads as slot-of-reads
-use Rattle.seek.proofs.inside.word_of.Reads as word-of-reads
+use Rattle.node_words.proofs.inside.slot_of.Reads as slot-of-reads
+use Rattle.node_words.proofs.inside.word_of.Reads as word-of-reads
 use Rattle.seek.proofs.Seeks.{seeks, seek-down}
 use Rattle.seek.proofs.inside.+seek.{statement}
 use Rattle.seek.proofs.inside.+seek.Tie.{close}

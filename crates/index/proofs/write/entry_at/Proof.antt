@@ -1,8 +1,0 @@
--- `index::write::entry_at` meets its contract. Assumes nothing.
-use borrow.Author.Needs.{needs}
-use Rattle.index.proofs.Cells.{tells}
-use Rattle.index.proofs.write.entry_at.Statement.{statement}
-use Rattle.index.proofs.write.entry_at.Tie as tie
-
-pub entry-at-spec : {M : Type 1} → statement M
-entry-at-spec = tie.close (tie.spec (λ c. search tells) (λ c κs. search needs) (λ c κs. search needs) (λ c. search tells) (λ c. search tells))

@@ -1,0 +1,17 @@
+-- What each answer to a question says, by document 01's numbers.
+use mathlib.Core.List.{[], _∷_}
+use Rattle.refusal.specs.Answer.{Answer, accepted, refused}
+use Rattle.index_questions.specs.declared.Found.{Found}
+use Rattle.index_questions.specs.declared.Found.the-variants as found-is
+use Rattle.index_questions.specs.declared.Listed.{Listed}
+use Rattle.index_questions.specs.declared.Listed.the-variants as listed-is
+
+-- 0 and the frame number
+abbrev pub saidFound : Found → Answer
+saidFound (found-is.Frame frame) = accepted (frame ∷ [])
+saidFound (found-is.Refused why) = refused why []
+
+-- 0, the cell, the length of its key and its frame number
+abbrev pub saidListed : Listed → Answer
+saidListed (listed-is.Entry cell length frame) = accepted (cell ∷ length ∷ frame ∷ [])
+saidListed (listed-is.Refused why) = refused why []

@@ -1,0 +1,2 @@
+// Words of nodes in lent memory, read whatever stands there.
+pub mod inside;

@@ -1,0 +1,155 @@
+// What a put counts before it writes, and writes, at the place that its key has met. What a caller must know stands in `requires`: right
+// lent lengths, and a place within them. That memory is a tree is not required.
+ghost use mathlib.Core.Path.{_≡_};
+ghost use Prim.Native.Nat.{_+_, _≤_, _<_};
+ghost use lib.ListN.{length, getD, set};
+ghost use Rattle.bank.specs.Bank.{slotAt};
+ghost use Rattle.arena.specs.Layout.{nodeStart, keyAt};
+ghost use Rattle.arena.specs.Free.{freeCells};
+ghost use Rattle.arena.specs.Memory.{memory, nodeCount, cellCount};
+ghost use Rattle.forest.specs.Nodes.{slotsAt};
+ghost use Rattle.model.specs.Meet.{numberWord};
+ghost use Rattle.model.specs.Calls.{neededAt, nodesWith};
+ghost use Rattle.seek.specs.Lengths.{NodesLent, CellsLent};
+ghost use Rattle.store.specs.Places.{roomAt, withAt, Lent};
+use arena::inside::Lowest;
+use model::Met;
+
+// The lowest free cell.
+fn lowest_cell(cells: &[u64]) -> usize
+    requires { ⌜ 1 ≤ cellCount (length (now cells)) ⌝ }
+    ensures { λ r. ⌜ (r ≡ getD (freeCells (now (cells .entry)) (cellCount (length (now (cells .entry))))) 0 0) × (r < cellCount (length (now (cells .entry)))) ⌝ }
+{
+    let Lowest::At(c) = arena::inside::lowest_free_cell(cells, cells.len() / 2) else {
+        return 0;
+    };
+    c
+}
+
+// The key in a cell, as far as lent memory has it.
+fn key_in<'a>(cells: &[u64], bytes: &'a [u8], cell: u64) -> &'a [u8]
+    requires { ⌜ CellsLent (length (now cells)) (length (now bytes)) ⌝ }
+    ensures { λ r. ⌜ now r ≡ keyAt (now (cells .entry)) (now (bytes .entry)) cell ⌝ }
+{
+    if (cells.len() / 2) as u64 <= cell {
+        return &bytes[0..0];
+    }
+    let from = cell as usize * 256;
+    let mark = cells[cell as usize * 2];
+    if mark < 1 {
+        return &bytes[from..from];
+    }
+    let room = bytes.len() - from;
+    if room as u64 <= mark - 1 {
+        return &bytes[from..bytes.len()];
+    }
+    &bytes[from..from + (mark - 1) as usize]
+}
+
+// The nodes that a put needs where the key is not stored.
+fn needed(nodes: &[u64], cells: &[u64], bytes: &[u8], key: &[u8], met: Met) -> usize
+    requires { ⌜ Lent (now nodes) (now cells) (now bytes) met ⌝ }
+    ensures { λ r. ⌜ r ≡ neededAt (memory (now (nodes .entry)) (now (cells .entry)) (now (bytes .entry))) (now (key .entry)) met ⌝ }
+{
+    match met {
+        Met::Stored {
+            leaf: _,
+            position: _,
+            cell: _,
+        } => 0,
+        Met::Conflict {
+            leaf: _,
+            position: _,
+            cell,
+            links,
+        } => {
+            let other = key_in(cells, bytes, cell);
+            grow::inside::layers(key, other, links + 1)
+        }
+        Met::Missing {
+            holder: _,
+            root,
+            links,
+        } => {
+            let height = seek::inside::height_of(nodes, root);
+            let ikey = ikey::read_ikey(key, 8 * links);
+            grow::inside::need(nodes, height, root, ikey)
+        }
+    }
+}
+
+// A cell is free, and nodes enough.
+pub fn has_room(nodes: &[u64], cells: &[u64], bytes: &[u8], key: &[u8], met: Met) -> bool
+    requires { ⌜ Lent (now nodes) (now cells) (now bytes) met ⌝ }
+    ensures { λ r. ⌜ r ≡ roomAt (memory (now (nodes .entry)) (now (cells .entry)) (now (bytes .entry))) (now (key .entry)) met ⌝ }
+{
+    if arena::inside::free_cells(cells, cells.len() / 2) < 1 {
+        return false;
+    }
+    let free = arena::inside::free_nodes(nodes, nodes.len() / 47);
+    if free < needed(nodes, cells, bytes, key, met) {
+        return false;
+    }
+    true
+}
+
+// Turns the entry at a position of a leaf into a link, and tells which word holds its number.
+fn make_link(nodes: &mut [u64], leaf: u64, position: usize) -> usize
+    requires { ⌜ NodesLent (length (now nodes)) × (leaf < nodeCount (length (now nodes))) × (position < 15) ⌝ }
+    ensures { λ r. ⌜ (now (nodes .exit) ≡ set (now (nodes .entry)) (nodeStart leaf + 17 + slotAt position (slotsAt (now (nodes .entry)) leaf)) 10) × (r ≡ numberWord (now (nodes .entry)) leaf position) ⌝ }
+{
+    let at = 2 + leaf as usize * 47;
+    let slot = node_words::inside::slot_of(nodes[at + 1], position);
+    edit::inside::put_at(nodes, at + 17 + slot, 10);
+    at + 32 + slot
+}
+
+// The nodes with the key's entry: in its layer, or below the entry that it is in conflict with.
+fn put_nodes(nodes: &mut [u64], cells: &[u64], bytes: &[u8], key: &[u8], c: u64, met: Met)
+    requires { ⌜ Lent (now nodes) (now cells) (now bytes) met ⌝ }
+    ensures { λ _. ⌜ now (nodes .exit) ≡ nodesWith (memory (now (nodes .entry)) (now (cells .entry)) (now (bytes .entry))) (now (key .entry)) c met ⌝ }
+{
+    let count = nodes.len() / 47;
+    match met {
+        Met::Stored {
+            leaf: _,
+            position: _,
+            cell: _,
+        } => {}
+        Met::Conflict {
+            leaf,
+            position,
+            cell,
+            links,
+        } => {
+            let other = key_in(cells, bytes, cell);
+            let holder = make_link(nodes, leaf, position);
+            grow::inside::grow_layers(nodes, count, holder, key, c, other, cell, links + 1);
+        }
+        Met::Missing {
+            holder,
+            root,
+            links,
+        } => {
+            let e = grow::inside::entry_for(key, c, links);
+            grow::inside::grow_layer(nodes, count, holder, root, e);
+        }
+    }
+}
+
+// The key's entry into the nodes, and the key with its frame number into the lowest free cell.
+pub fn put_new(
+    nodes: &mut [u64],
+    cells: &mut [u64],
+    bytes: &mut [u8],
+    key: &[u8],
+    frame: u64,
+    met: Met,
+)
+    requires { ⌜ Lent (now nodes) (now cells) (now bytes) met × (length (now key) ≤ 256) ⌝ }
+    ensures { λ _. ⌜ memory (now (nodes .exit)) (now (cells .exit)) (now (bytes .exit)) ≡ withAt (memory (now (nodes .entry)) (now (cells .entry)) (now (bytes .entry))) (now (key .entry)) frame met ⌝ }
+{
+    let c = lowest_cell(cells);
+    put_nodes(nodes, cells, bytes, key, c as u64, met);
+    arena::inside::store_cell(cells, bytes, c, key, frame);
+}
