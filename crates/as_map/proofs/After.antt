@@ -2,21 +2,19 @@
 -- the map leaves.
 use mathlib.Core.Path.{_≡_, refl, sym, ap, ap₂, _∙_, subst}
 use mathlib.Core.Logic.{_≢_}
-use mathlib.Core.Bool.{Bool, true, false}
+use mathlib.Core.Bool.{Bool, true, false, cond}
 use mathlib.Core.List.{List, [], _∷_}
 use mathlib.Core.Option.{Option, none, some}
-use Prim.Native.Nat.{ℕ, zero, suc, _*_, _≤_}
+use Prim.Native.Nat.{ℕ, _*_, _≤_}
 use native.Mathlib.Omega.{arith}
 use lib.Dec.{leb}
 use lib.ListN.{length}
-use Rattle.order.specs.Bytes as bytes
-use Rattle.order.specs.Bytes.{Bytes, bytewise}
+use Rattle.order.specs.Bytes.{bytewise}
 use Rattle.order.specs.Map as order
 use Rattle.order.specs.Map.{Map, All, a[], _a∷_, lookup}
-use Rattle.arena.specs.Parts.{zeros}
 use Rattle.arena.specs.Memory.{Memory, emptied}
-use Rattle.forest.specs.Trees.{choose}
 use Rattle.forest.proofs.Cleared.{cleared-tree}
+use Rattle.places.proofs.FreedCells.{bytes-zeros}
 use Rattle.as_map.specs.Calls.{Call, put, find, remove, kth, OfBytes, Heard, done, frame, entry, refused, heard, left, leftAfter, roomFor, answers}
 use Rattle.as_map.specs.Map.{whether, mapSays, mapLeft, mapAnswers, mapAfter}
 use Rattle.as_map.proofs.Says.{says}
@@ -63,20 +61,20 @@ says-not-10 : (room : Bool) (xs : Map) (call : Call) → mapSays room xs call �
 says-not-10 room xs (put key x) = go (leb (length key) 256) (lookup bytewise key xs) room
   where
     go : (short : Bool) (found : Option ℕ) (room : Bool)
-        → choose short (whether (choose room done (refused 13)) (λ y. refused 11) found) (refused 7) ≢ refused 10
+        → cond short (whether (cond room done (refused 13)) (λ y. refused 11) found) (refused 7) ≢ refused 10
     go true none true = not-10 0 refl (λ e. omega arith)
     go true none false = not-10 13 refl (λ e. omega arith)
     go true (some y) room = not-10 11 refl (λ e. omega arith)
     go false found room = not-10 7 refl (λ e. omega arith)
 says-not-10 room xs (find key) = go (leb (length key) 256) (lookup bytewise key xs)
   where
-    go : (short : Bool) (found : Option ℕ) → choose short (whether (refused 12) frame found) (refused 7) ≢ refused 10
+    go : (short : Bool) (found : Option ℕ) → cond short (whether (refused 12) frame found) (refused 7) ≢ refused 10
     go true none = not-10 12 refl (λ e. omega arith)
     go true (some y) = not-10 0 refl (λ e. omega arith)
     go false found = not-10 7 refl (λ e. omega arith)
 says-not-10 room xs (remove key) = go (leb (length key) 256) (lookup bytewise key xs)
   where
-    go : (short : Bool) (found : Option ℕ) → choose short (whether (refused 12) (λ y. done) found) (refused 7) ≢ refused 10
+    go : (short : Bool) (found : Option ℕ) → cond short (whether (refused 12) (λ y. done) found) (refused 7) ≢ refused 10
     go true none = not-10 12 refl (λ e. omega arith)
     go true (some y) = not-10 0 refl (λ e. omega arith)
     go false found = not-10 7 refl (λ e. omega arith)
@@ -92,10 +90,6 @@ all-not-10 m xs (call ∷ calls) =
     says-not-10 (roomFor m call) xs call a∷ all-not-10 (left m call) (mapLeft (roomFor m call) xs call) calls
 
 -- ---- after a clear
-
-bytes-zeros : (n : ℕ) → Bytes (zeros n)
-bytes-zeros zero = bytes.none
-bytes-zeros (suc n) = bytes.more {x = 0} (omega arith) (bytes-zeros n)
 
 -- memory lists nothing
 pub cleared-lists : (n c : ℕ) → 1 ≤ n → n ≤ 255 → 1 ≤ c → c ≤ 255 → Lists (emptied n c) []

@@ -1,6 +1,6 @@
 -- What each call leaves of memory that is a tree: a tree that lists what the sorted map leaves. A refused call leaves memory as it was.
 use mathlib.Core.Path.{_≡_, refl, sym, ap}
-use mathlib.Core.Bool.{Bool, true, false, not}
+use mathlib.Core.Bool.{Bool, true, false, cond, not}
 use mathlib.Core.List.{List, [], _∷_}
 use mathlib.Core.Option.{Option, none, some}
 use Prim.Native.Nat.{ℕ, _≤_, Ordering, Ordering·lt, Ordering·eq, Ordering·gt}
@@ -13,7 +13,6 @@ use Rattle.refusal.specs.Answer.{_unless_, answered}
 use Rattle.order.specs.Bytes.{Bytes, bytewise}
 use Rattle.order.specs.Map.{Map, pick, lookup, alter, insert, delete}
 use Rattle.arena.specs.Memory.{Memory}
-use Rattle.forest.specs.Trees.{choose}
 use Rattle.forest.specs.IsTree.{Layers, IsTree, listing}
 use Rattle.model.specs.Calls.{place, stored, without, with, hasRoom, removed, putDone, whenAccepted}
 use Rattle.places.proofs.Found.{isSome, stored-lookup}
@@ -42,14 +41,14 @@ delete-missing key (x ∷ xs) e = go (bytewise key (x .0)) e (delete-missing key
 
 remove-left : (short there : Bool) (after before : Memory)
     → whenAccepted (answered ((7 unless short) ∷ (10 unless true) ∷ (12 unless there) ∷ []) [] []) after before
-    ≡ choose short (choose there after before) before
+    ≡ cond short (cond there after before) before
 remove-left true true after before = refl
 remove-left true false after before = refl
 remove-left false there after before = refl
 
 put-left : (short there room : Bool) (after before : Memory)
     → whenAccepted (answered ((7 unless short) ∷ (10 unless true) ∷ (11 unless not there) ∷ (13 unless room) ∷ []) [] []) after before
-    ≡ choose short (choose there before (choose room after before)) before
+    ≡ cond short (cond there before (cond room after before)) before
 put-left true true room after before = refl
 put-left true false true after before = refl
 put-left true false false after before = refl
@@ -74,7 +73,7 @@ module _ (m : Memory) (v : Layers) (t : IsTree m v) (bytes : Bytes (m .bytes)) w
         go : (short there : Bool) (found : Option ℕ) → there ≡ isSome found
             → (there ≡ true → Lists (without m (place m key)) (delete bytewise key (listing m v)))
             → (found ≡ none → delete bytewise key (listing m v) ≡ listing m v)
-            → Lists (choose short (choose there (without m (place m key)) m) m) (choose short (delete bytewise key (listing m v)) (listing m v))
+            → Lists (cond short (cond there (without m (place m key)) m) m) (cond short (delete bytewise key (listing m v)) (listing m v))
         go false there found e less same = as-it-was
         go true true found e less same = less refl
         go true false none e less same = (v, t, bytes, sym (same refl))
@@ -93,8 +92,8 @@ module _ (m : Memory) (v : Layers) (t : IsTree m v) (bytes : Bytes (m .bytes)) w
         where
           go : (short there room : Bool) (found : Option ℕ) → there ≡ isSome found
               → (short ≡ true → there ≡ false → room ≡ true → Lists (with m key x) (insert bytewise key x (listing m v)))
-              → Lists (choose short (choose there m (choose room (with m key x) m)) m)
-              (choose short (whether (choose room (insert bytewise key x (listing m v)) (listing m v)) (λ y. listing m v) found) (listing m v))
+              → Lists (cond short (cond there m (cond room (with m key x) m)) m)
+              (cond short (whether (cond room (insert bytewise key x (listing m v)) (listing m v)) (λ y. listing m v) found) (listing m v))
           go false there room found e more = as-it-was
           go true true room (some y) e more = as-it-was
           go true false true none e more = more refl refl refl

@@ -1,6 +1,6 @@
 -- What is heard at each call on memory that is a tree: what the sorted map says. Assumes nothing.
 use mathlib.Core.Path.{_≡_, refl, ap, _∙_}
-use mathlib.Core.Bool.{Bool, true, false, not}
+use mathlib.Core.Bool.{Bool, true, false, cond, not}
 use mathlib.Core.List.{List, [], _∷_, map}
 use mathlib.Core.Option.{Option, none, some}
 use Prim.Native.Nat.{ℕ, zero, suc}
@@ -11,7 +11,6 @@ use Rattle.refusal.specs.Answer.{_unless_, answered}
 use Rattle.order.specs.Bytes.{Bytes, bytewise}
 use Rattle.order.specs.Map as order
 use Rattle.arena.specs.Memory.{Memory}
-use Rattle.forest.specs.Trees.{choose}
 use Rattle.forest.specs.Walk.{isTree}
 use Rattle.forest.specs.IsTree.{Layers, IsTree, listing}
 use Rattle.forest.proofs.Accepts.{tree-accepted}
@@ -25,21 +24,21 @@ use Rattle.as_map.specs.Map.{whether, mapSays}
 
 find-ruled : (short : Bool) (found : Option ℕ)
     → heardOf (answered ((7 unless short) ∷ (10 unless true) ∷ (12 unless isSome found) ∷ []) (asList found) []) (λ values. frame (getD values 0 0))
-    ≡ choose short (whether (refused 12) frame found) (refused 7)
+    ≡ cond short (whether (refused 12) frame found) (refused 7)
 find-ruled true none = refl
 find-ruled true (some x) = refl
 find-ruled false found = refl
 
 remove-ruled : (short : Bool) (found : Option ℕ)
     → heardOf (answered ((7 unless short) ∷ (10 unless true) ∷ (12 unless isSome found) ∷ []) [] []) (λ values. done)
-    ≡ choose short (whether (refused 12) (λ y. done) found) (refused 7)
+    ≡ cond short (whether (refused 12) (λ y. done) found) (refused 7)
 remove-ruled true none = refl
 remove-ruled true (some x) = refl
 remove-ruled false found = refl
 
 put-ruled : (short : Bool) (found : Option ℕ) (room : Bool)
     → heardOf (answered ((7 unless short) ∷ (10 unless true) ∷ (11 unless not (isSome found)) ∷ (13 unless room) ∷ []) [] []) (λ values. done)
-    ≡ choose short (whether (choose room done (refused 13)) (λ y. refused 11) found) (refused 7)
+    ≡ cond short (whether (cond room done (refused 13)) (λ y. refused 11) found) (refused 7)
 put-ruled true none true = refl
 put-ruled true none false = refl
 put-ruled true (some x) room = refl
@@ -47,7 +46,7 @@ put-ruled false found room = refl
 
 -- the k-th of a list, seen through f
 kth-ruled : (f : ℕ → List ℕ × ℕ) (k : ℕ) (cells : List ℕ)
-    → choose (ltb k (length cells)) (entry (f (getD cells k 0) .0) (f (getD cells k 0) .1)) (refused 12)
+    → cond (ltb k (length cells)) (entry (f (getD cells k 0) .0) (f (getD cells k 0) .1)) (refused 12)
     ≡ whether (refused 12) (λ (e : List ℕ × ℕ). entry (e .0) (e .1)) (order.kth k (map f cells))
 unfolding order.kth
 kth-ruled f k [] = rw (leb·suc-zero k) refl
@@ -55,7 +54,7 @@ kth-ruled f zero (c ∷ cells) = rw (leb·suc-suc 0 (length cells), leb·zero (l
 kth-ruled f (suc k) (c ∷ cells) = rw (leb·suc-suc (suc k) (length cells)) (kth-ruled f k cells)
 
 kth-told : (within : Bool) (told : List ℕ) (tell : List ℕ → Heard)
-    → heardOf (answered ((10 unless true) ∷ (12 unless within) ∷ []) told []) tell ≡ choose within (tell told) (refused 12)
+    → heardOf (answered ((10 unless true) ∷ (12 unless within) ∷ []) told []) tell ≡ cond within (tell told) (refused 12)
 kth-told true told tell = refl
 kth-told false told tell = refl
 

@@ -2,7 +2,7 @@
 use Prim.Native.Nat.{ℕ, _≤_, _<_}
 use mathlib.Core.Path.{_≡_}
 use mathlib.Core.Logic.{_⊎_}
-use mathlib.Core.Bool.{Bool, true, false}
+use mathlib.Core.Bool.{Bool, true, false, cond}
 use mathlib.Core.List.{List, [], _∷_}
 use lib.Dec.{T, eqb}
 use lib.ListN.{length, getD}
@@ -12,7 +12,6 @@ use Rattle.arena.specs.Parts.{part}
 use Rattle.arena.specs.Layout.{keyStart}
 use Rattle.arena.specs.Free.{freeNodes, freeCells}
 use Rattle.arena.specs.Memory.{Memory}
-use Rattle.forest.specs.Trees.{choose}
 use Rattle.forest.specs.Walk.{isTree}
 use Rattle.model.specs.Calls.{nodesOf, cellsOf, stored, needed, findSaid, kthSaid, removed, putDone, hasRoom}
 
@@ -30,7 +29,7 @@ pub data Heard : Type 0 where
 
 -- of an answer: its number where it is a refusal, else what its values tell
 abbrev pub heardOf : Answer → (List ℕ → Heard) → Heard
-heardOf a tell = choose (eqb (a .number) 0) (tell (a .values)) (refused (a .number))
+heardOf a tell = cond (eqb (a .number) 0) (tell (a .values)) (refused (a .number))
 
 -- the k-th entry: its key are the bytes of that length in that cell
 abbrev pub keyTold : Memory → List ℕ → List ℕ

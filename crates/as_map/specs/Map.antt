@@ -1,6 +1,6 @@
 -- The same calls on a sorted map from keys to frame numbers.
 use Prim.Native.Nat.{ℕ}
-use mathlib.Core.Bool.{Bool}
+use mathlib.Core.Bool.{Bool, cond}
 use mathlib.Core.List.{List, [], _∷_}
 use mathlib.Core.Option.{Option, none, some}
 use lib.Dec.{leb}
@@ -9,7 +9,6 @@ use Rattle.order.specs.Bytes.{bytewise}
 use Rattle.order.specs.Map as map
 use Rattle.order.specs.Map.{Map}
 use Rattle.arena.specs.Memory.{Memory}
-use Rattle.forest.specs.Trees.{choose}
 use Rattle.as_map.specs.Calls.{Call, put, find, remove, kth, Heard, done, frame, entry, refused, left, roomFor}
 
 abbrev pub whether : {A B : Type 0} → B → (A → B) → Option A → B
@@ -18,12 +17,12 @@ whether z f (some a) = f a
 
 -- refusal 7: the key is over 256 bytes
 abbrev pub ofLength : {A : Type 0} → List ℕ → A → A → A
-ofLength key long short = choose (leb (length key) 256) short long
+ofLength key long short = cond (leb (length key) 256) short long
 
 -- what a sorted map says to a call; `room`: nodes and cells enough are free
 abbrev pub mapSays : Bool → Map → Call → Heard
 mapSays room xs (put key x) =
-    ofLength key (refused 7) (whether (choose room done (refused 13)) (λ y. refused 11) (map.lookup bytewise key xs))
+    ofLength key (refused 7) (whether (cond room done (refused 13)) (λ y. refused 11) (map.lookup bytewise key xs))
 mapSays room xs (find key) = ofLength key (refused 7) (whether (refused 12) frame (map.lookup bytewise key xs))
 mapSays room xs (remove key) = ofLength key (refused 7) (whether (refused 12) (λ y. done) (map.lookup bytewise key xs))
 mapSays room xs (kth k) = whether (refused 12) (λ e. entry (e .0) (e .1)) (map.kth k xs)
@@ -31,7 +30,7 @@ mapSays room xs (kth k) = whether (refused 12) (λ e. entry (e .0) (e .1)) (map.
 -- and the map that it leaves
 abbrev pub mapLeft : Bool → Map → Call → Map
 mapLeft room xs (put key x) =
-    ofLength key xs (whether (choose room (map.insert bytewise key x xs) xs) (λ y. xs) (map.lookup bytewise key xs))
+    ofLength key xs (whether (cond room (map.insert bytewise key x xs) xs) (λ y. xs) (map.lookup bytewise key xs))
 mapLeft room xs (find key) = xs
 mapLeft room xs (remove key) = ofLength key xs (map.delete bytewise key xs)
 mapLeft room xs (kth k) = xs

@@ -2,7 +2,7 @@
 use mathlib.Core.Path.{_≡_, refl, sym, ap, _∙_, subst}
 use mathlib.Core.Bool.{Bool, true}
 use mathlib.Core.List.{List, [], _∷_, map}
-use Prim.Native.Nat.{ℕ, suc, _+_, _-_, _≤_, _<_}
+use Prim.Native.Nat.{ℕ, suc, _+_, _≤_, _<_}
 use native.Mathlib.Omega.{arith}
 use native.Mathlib.Decide.{ℕ-discrete}
 use lib.Dec.{T}
@@ -12,7 +12,7 @@ use Rattle.bank.specs.Lists.{count}
 use Rattle.bank.proofs.Tests.{and-left, and-right, and-both}
 use Rattle.bank.proofs.Counts.{count-other, count-append, count-at, once}
 use Rattle.nibbles.specs.Words.{validWord}
-use Rattle.leaf.specs.declared.Entry.{Entry}
+use Rattle.leaf_entries.specs.declared.Entry.{Entry}
 use Rattle.leaf.specs.Lists.{every}
 use Rattle.leaf.specs.Leaf.{none, inUse, viewed, slotsOf, inOrder}
 use Rattle.leaf.proofs.Views.{good-word}
@@ -35,7 +35,8 @@ member test f s (x ∷ xs) t h =
     ]
 
 -- and the other way round
-pub members : {A : Type 0} (test : A → Bool) (f : ℕ → A) (xs : List ℕ) → ((i : ℕ) → i < length xs → T (test (f (getD xs i 0)))) → T (every test (map f xs))
+pub members : {A : Type 0} (test : A → Bool) (f : ℕ → A) (xs : List ℕ) → ((i : ℕ) → i < length xs → T (test (f (getD xs i 0))))
+    → T (every test (map f xs))
 unfolding every
 members test f [] h = tt
 members test f (x ∷ xs) h = and-both (test (f x)) _ (h 0 (omega arith)) (members test f xs (λ i l. h (suc i) (omega arith)))
@@ -67,7 +68,8 @@ module _ (m : List ℕ) (k : ℕ) (v : validWord 15 (wordAt m k 1) ≡ true) whe
   entries-view =
       map-at (entryAt m k) (λ s. getD (fifteen m k) s none) used
       (λ i l. let n = length-take (slotsAt m k .size) slots in
-      sym (fifteen-at m k (getD used i 0) (rw (getD-take (slotsAt m k .size) slots i 0 (omega arith)) (slot-below (wordAt m k 1) v i (omega (arith, wide))))))
+      sym (fifteen-at m k (getD used i 0) (rw (getD-take (slotsAt m k .size) slots i 0 (omega arith))
+      (slot-below (wordAt m k 1) v i (omega (arith, wide))))))
 
   -- a slot is in use or not
   pub used-or-not : (s : ℕ) → s < 15 → count s used + count s unused ≡ 1
@@ -88,7 +90,8 @@ module _ (m : List ℕ) (k : ℕ) (v : validWord 15 (wordAt m k 1) ≡ true) whe
   rest-if f =
       members isZero (entryAt m k) unused
       (λ i l. let n = length-drop (slotsAt m k .size) slots in
-      let q : getD unused i 0 < 15 = rw (getD-drop (slotsAt m k .size) slots i 0) (slot-below (wordAt m k 1) v (slotsAt m k .size + i) (omega (arith, wide))) in
+      let q : getD unused i 0 < 15 = rw (getD-drop (slotsAt m k .size) slots i 0)
+      (slot-below (wordAt m k 1) v (slotsAt m k .size + i) (omega (arith, wide))) in
       f (getD unused i 0) q (omega (arith, used-or-not (getD unused i 0) q, count-at unused i l)))
 
 -- ---- an entry that names its slot: what a law says of every leaf's view it says of the slots in use
@@ -118,5 +121,6 @@ used-named word v =
     ap (map (λ (e : Entry). e .ikey))
     (map-at (λ s. getD names s none) naming (inUse (slotsOf word))
     (λ i l. let n = length-take (slotsOf word .size) (slotsOf word .slots) in
-    names-at _ (rw (getD-take (slotsOf word .size) (slotsOf word .slots) i 0 (omega arith)) (slot-below word v i (omega (arith, slots-wide word v))))))
+    names-at _ (rw (getD-take (slotsOf word .size) (slotsOf word .slots) i 0 (omega arith))
+    (slot-below word v i (omega (arith, slots-wide word v))))))
     ∙ map-named (inUse (slotsOf word))

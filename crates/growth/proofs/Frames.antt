@@ -19,9 +19,10 @@ use Rattle.leaf.proofs.Views.{good-word}
 use Rattle.arena.specs.Parts.{part}
 use Rattle.arena.specs.Layout.{nodeStart, nodeAt, wordAt, kindAt}
 use Rattle.arena.proofs.Words.{part-ext, part-at}
-use Rattle.forest.specs.Nodes.{entryAt, notInUse, slotsAt, entriesAt, restAt, leafRight, countAt, ikeysAt, childrenAt, internodeRight, allZero, nodeFree}
+use Rattle.forest.specs.Nodes.{entryAt, notInUse, slotsAt, entriesAt, restAt, leafRight, countAt, ikeysAt, childrenAt, internodeRight}
+use Rattle.forest.specs.Nodes.{allZero, nodeFree}
 use Rattle.forest.specs.Trees.{seenAs}
-use Rattle.trees.specs.Base.{leaf, inner, free}
+use Rattle.trees.specs.Nodes.{free, leaf, internode}
 use Rattle.views.specs.Views.{entryView, nodeView, nodeSound}
 
 pub map-at : {A : Type 0} (f g : ℕ → A) (xs : List ℕ) → ((i : ℕ) → i < length xs → f (getD xs i 0) ≡ g (getD xs i 0)) → map f xs ≡ map g xs
@@ -44,7 +45,8 @@ module _ (word : ℕ) (v : validWord 15 word ≡ true) where
 
   pub slot-below : (i : ℕ) → i < 15 → getD (slotsOf word .slots) i 0 < 15
   slot-below i l =
-      subst (λ (n : ℕ). getD (slotsOf word .slots) i 0 < n) slots-wide (slot-lt (slotsOf word .slots) (good-word word v .once) i (omega (arith, slots-wide)))
+      subst (λ (n : ℕ). getD (slotsOf word .slots) i 0 < n) slots-wide
+      (slot-lt (slotsOf word .slots) (good-word word v .once) i (omega (arith, slots-wide)))
 
   pub size-most : slotsOf word .size ≤ 15
   size-most = good-word word v .sized
@@ -57,7 +59,9 @@ module _ (m m′ : List ℕ) (k : ℕ) where
 
   module _ (fits : nodeStart k + 47 ≤ length m) (fits′ : nodeStart k + 47 ≤ length m′) (same : Same) where
     pub kind-same : kindAt m′ k ≡ kindAt m k
-    kind-same = let z : nodeStart k + 0 ≡ nodeStart k = add-zero (nodeStart k) in ap (λ (i : ℕ). getD m′ i 0) (sym z) ∙ same 0 (omega arith) ∙ ap (λ (i : ℕ). getD m i 0) z
+    kind-same =
+        let z : nodeStart k + 0 ≡ nodeStart k = add-zero (nodeStart k) in
+        ap (λ (i : ℕ). getD m′ i 0) (sym z) ∙ same 0 (omega arith) ∙ ap (λ (i : ℕ). getD m i 0) z
 
     part-same : (a n : ℕ) → a + n ≤ 47 → part m′ (nodeStart k + a) n ≡ part m (nodeStart k + a) n
     part-same a n h =
@@ -78,7 +82,8 @@ module _ (m m′ : List ℕ) (k : ℕ) where
           ap (λ (b : Bank). map (entryAt m′ k) (inUse b)) slots-same
           ∙ map-at (entryAt m′ k) (entryAt m k) (inUse (slotsAt m k))
           (λ i l. let n = length-take (slotsAt m k .size) (slotsAt m k .slots) in
-          entry-same _ (rw (getD-take (slotsAt m k .size) (slotsAt m k .slots) i 0 (omega arith)) (slot-below (wordAt m k 1) v i (omega (arith, slots-wide (wordAt m k 1) v)))))
+          entry-same _ (rw (getD-take (slotsAt m k .size) (slotsAt m k .slots) i 0 (omega arith))
+          (slot-below (wordAt m k 1) v i (omega (arith, slots-wide (wordAt m k 1) v)))))
 
       rest-same : restAt m′ k ≡ restAt m k
       unfolding restAt
@@ -86,12 +91,14 @@ module _ (m m′ : List ℕ) (k : ℕ) where
           ap (λ (b : Bank). map (entryAt m′ k) (notInUse b)) slots-same
           ∙ map-at (entryAt m′ k) (entryAt m k) (notInUse (slotsAt m k))
           (λ i l. let n = length-drop (slotsAt m k .size) (slotsAt m k .slots) in
-          entry-same _ (rw (getD-drop (slotsAt m k .size) (slotsAt m k .slots) i 0) (slot-below (wordAt m k 1) v (slotsAt m k .size + i) (omega (arith, slots-wide (wordAt m k 1) v)))))
+          entry-same _ (rw (getD-drop (slotsAt m k .size) (slotsAt m k .slots) i 0)
+          (slot-below (wordAt m k 1) v (slotsAt m k .size + i) (omega (arith, slots-wide (wordAt m k 1) v)))))
 
     leaf-same : T (leafRight m k) → T (leafRight m′ k) × (entriesAt m′ k ≡ entriesAt m k)
     unfolding leafRight
     leaf-same t =
-        let v : validWord 15 (wordAt m k 1) ≡ true = is-true _ (and-left (validWord 15 (wordAt m k 1)) _ (and-right (eqb (kindAt m k) 1) _ t)) in
+        let v : validWord 15 (wordAt m k 1) ≡ true = is-true _
+        (and-left (validWord 15 (wordAt m k 1)) _ (and-right (eqb (kindAt m k) 1) _ t)) in
         (rw (kind-same, same 1 (omega arith), entries-same v, rest-same v) t, entries-same v)
 
     pub leaf-still : T (leafRight m k) → T (leafRight m′ k)
@@ -117,7 +124,8 @@ module _ (m m′ : List ℕ) (k : ℕ) where
     unfolding nodeFree
     free-same t =
         let z : nodeStart k + 0 ≡ nodeStart k = add-zero (nodeStart k) in
-        subst (λ (xs : List ℕ). T (allZero xs)) (ap (λ (a : ℕ). part m a 47) (sym z) ∙ sym (part-same 0 47 (omega arith)) ∙ ap (λ (a : ℕ). part m′ a 47) z) t
+        subst (λ (xs : List ℕ). T (allZero xs)) (ap (λ (a : ℕ). part m a 47) (sym z) ∙ sym (part-same 0 47 (omega arith))
+        ∙ ap (λ (a : ℕ). part m′ a 47) z) t
 
 -- ---- a node is free, a leaf or an internode
 
@@ -163,7 +171,8 @@ module _ (m : List ℕ) (k : ℕ) where
   unfolding nodeSound
   kind-of fits t = by (nodeFree m k) refl (leafRight m k) refl (internodeRight m k) refl t
     where
-      by : (a : Bool) → nodeFree m k ≡ a → (b : Bool) → leafRight m k ≡ b → (c : Bool) → internodeRight m k ≡ c → T (a || (b || c)) → Kind m k
+      by : (a : Bool) → nodeFree m k ≡ a → (b : Bool) → leafRight m k ≡ b → (c : Bool) → internodeRight m k ≡ c → T (a || (b || c))
+          → Kind m k
       by true e b f c g t = let u : T (nodeFree m k) = holds e in is-free u (free-kind fits u)
       by false e true f c g t = let u : T (leafRight m k) = holds f in is-leaf u (leaf-kind u)
       by false e false f true g t = let u : T (internodeRight m k) = holds g in is-internode u (internode-kind u)
@@ -173,7 +182,7 @@ module _ (m : List ℕ) (k : ℕ) where
   unfolding nodeView
   view-leaf t = rw (leaf-kind t)
 
-  pub view-internode : T (internodeRight m k) → nodeView m k ≡ inner (map suc (ikeysAt m k)) (childrenAt m k)
+  pub view-internode : T (internodeRight m k) → nodeView m k ≡ internode (map suc (ikeysAt m k)) (childrenAt m k)
   unfolding nodeView
   view-internode t = rw (internode-kind t)
 
@@ -188,10 +197,17 @@ module _ (m m′ : List ℕ) (k : ℕ) (fits : nodeStart k + 47 ≤ length m) (f
   node-same t = by (kind-of m k fits t)
     where
       by : Kind m k → T (nodeSound m′ k) × (nodeView m′ k ≡ nodeView m k)
-      by (is-free t e) = (sound-free m′ k (free-same m m′ k fits fits′ same t), view-free m′ k (kind-same m m′ k fits fits′ same ∙ e) ∙ sym (view-free m k e))
+      by (is-free t e) = (
+        sound-free m′ k (free-same m m′ k fits fits′ same t),
+        view-free m′ k (kind-same m m′ k fits fits′ same ∙ e)
+            ∙ sym (view-free m k e),
+      )
       by (is-leaf t e) =
           let (u, q) = leaf-same m m′ k fits fits′ same t in
           (sound-leaf m′ k u, view-leaf m′ k u ∙ ap (λ es. leaf (map (λ e. entryView (seenAs e)) es)) q ∙ sym (view-leaf m k t))
       by (is-internode t e) =
-          let (u, q) = internode-same m m′ k fits fits′ same t in
-          (sound-internode m′ k u, view-internode m′ k u ∙ ap₂ (λ (ks cs : List ℕ). inner (map suc ks) cs) (q .0) (q .1) ∙ sym (view-internode m k t))
+          let (u, q) = internode-same m m′ k fits fits′ same t in (
+            sound-internode m′ k u,
+            view-internode m′ k u ∙ ap₂ (λ (ks cs : List ℕ). internode (map suc ks) cs) (q .0) (q .1)
+                ∙ sym (view-internode m k t),
+          )

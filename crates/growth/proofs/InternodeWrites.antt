@@ -7,17 +7,17 @@ use lib.Dec.{T, eqb, leb, le→leb, leb→le, eqb→eq}
 use lib.ListN.{length, take, drop, length-append, length-replicate, replicate-append-replicate}
 use lib.Seq.{take-add, take-take, drop-drop}
 use Rattle.bank.proofs.Tests.{and-left, and-right, and-both}
-use Rattle.internode.specs.declared.Internode as internode
+use Rattle.internode_places.specs.declared.Internode as declared
 use Rattle.internode.specs.Lists.{rising}
 use Rattle.internode.specs.Split.{nodeOf}
 use Rattle.leaf.specs.Lists.{every}
-use Rattle.arena.specs.declared.inside.Internode as arena
+use Rattle.lent_nodes.specs.declared.inside.Internode as arena
 use Rattle.arena.specs.Parts.{part, zeros}
 use Rattle.arena.specs.Layout.{nodeStart, kindAt, internodeWords, putInternode}
 use Rattle.arena.proofs.Words.{part-part, part-length, middle}
 use Rattle.arena.proofs.Nodes.{node-stored, kind-stored, nodes-length}
 use Rattle.forest.specs.Nodes.{allZero, countAt, ikeysAt, childrenAt, internodeRight}
-use Rattle.trees.specs.Base.{inner}
+use Rattle.trees.specs.Nodes.{internode}
 use Rattle.model.specs.Internodes.{internodeIn, internodePut}
 use Rattle.growth.proofs.Frames.{sound-internode, view-internode}
 use Rattle.growth.proofs.Memory.{Nodes, node-fits, Wrote}
@@ -110,7 +110,9 @@ module _ (m : List ℕ) (k : ℕ) where
         let z : 16 ≡ (n + 1) + (15 - n) = omega arith in
         let y : nodeStart k + 17 + (n + 1) ≡ nodeStart k + 18 + n = omega arith in
         let p = part m (nodeStart k + 18 + n) (15 - n) in
-        let t : T (allZero p) = subst (λ (ys : List ℕ). T (allZero ys)) (sym (part-take m (nodeStart k + 18 + n) (15 - n) (29 - n) (omega arith))) (zeros-take (15 - n) (part m (nodeStart k + 18 + n) (29 - n)) (r .rest-zero)) in
+        let t : T (allZero p) = subst (λ (ys : List ℕ). T (allZero ys))
+        (sym (part-take m (nodeStart k + 18 + n) (15 - n) (29 - n) (omega arith)))
+        (zeros-take (15 - n) (part m (nodeStart k + 18 + n) (29 - n)) (r .rest-zero)) in
         ap (part m (nodeStart k + 17)) z ∙ part-two m (nodeStart k + 17) (n + 1) (15 - n)
         ∙ ap (λ (ys : List ℕ). part m (nodeStart k + 17) (n + 1) ++ ys)
         (ap (λ (a : ℕ). part m a (15 - n)) y ∙ zeros-are p t ∙ ap zeros (part-length m (nodeStart k + 18 + n) (15 - n) (omega arith)))
@@ -120,14 +122,17 @@ module _ (m : List ℕ) (k : ℕ) where
     unfolding internodeIn
     internode-in =
         let c : 15 - countAt m k ≡ 16 - length (childrenAt m k) = omega (arith, children-length) in
-        same (sym ikeys-length) (ikeys-15 ∙ ap (λ (n : ℕ). ikeysAt m k ++ zeros (15 - n)) (sym ikeys-length)) (children-16 ∙ ap (λ (n : ℕ). childrenAt m k ++ zeros n) c)
+        same (sym ikeys-length) (ikeys-15 ∙ ap (λ (n : ℕ). ikeysAt m k ++ zeros (15 - n)) (sym ikeys-length))
+        (children-16 ∙ ap (λ (n : ℕ). childrenAt m k ++ zeros n) c)
       where
-        same : {a b : ℕ} {i j c d : List ℕ} → a ≡ b → i ≡ j → c ≡ d → _≡_ {A = internode.Internode} (record { n = a; ikeys = i; children = c }) (record { n = b; ikeys = j; children = d })
+        same : {a b : ℕ} {i j c d : List ℕ} → a ≡ b → i ≡ j → c ≡ d
+            → _≡_ {A = declared.Internode} (record { n = a; ikeys = i; children = c }) (record { n = b; ikeys = j; children = d })
         same p q r = λ x. record { n = p x; ikeys = q x; children = r x }
 
 -- ---- an internode with these ikeys and children
 
-module _ (nodes : List ℕ) (n : ℕ) (N : Nodes nodes n) (k : ℕ) (h : k < n) (ks cs : List ℕ) (few : length ks ≤ 15) (one-more : length cs ≡ length ks + 1) where
+module _ (nodes : List ℕ) (n : ℕ) (N : Nodes nodes n) (k : ℕ) (h : k < n) (ks cs : List ℕ) (few : length ks ≤ 15)
+    (one-more : length cs ≡ length ks + 1) where
   abbrev made : arena.Internode
   made = record { n = length ks; ikeys = nodeOf ks cs .ikeys; children = nodeOf ks cs .children }
 
@@ -157,7 +162,8 @@ module _ (nodes : List ℕ) (n : ℕ) (N : Nodes nodes n) (k : ℕ) (h : k < n) 
   unrolled = ap (λ (xs : List ℕ). 2 ∷ length ks ∷ xs) (flat ks keyZeros cs childZeros (zeros 14))
     where
       flat : (a b c d e : List ℕ) → a ++ b ++ (c ++ d) ++ e ≡ a ++ (b ++ (c ++ (d ++ e)))
-      flat a b c d e = append-assoc (a ++ b) (c ++ d) e ∙ append-assoc a b ((c ++ d) ++ e) ∙ ap (λ (x : List ℕ). a ++ (b ++ x)) (append-assoc c d e)
+      flat a b c d e = append-assoc (a ++ b) (c ++ d) e ∙ append-assoc a b ((c ++ d) ++ e)
+          ∙ ap (λ (x : List ℕ). a ++ (b ++ x)) (append-assoc c d e)
 
   stored : (a c : ℕ) → a + c ≤ 47 → part after (nodeStart k + a) c ≡ part words a c
   stored a c l =
@@ -171,31 +177,40 @@ module _ (nodes : List ℕ) (n : ℕ) (N : Nodes nodes n) (k : ℕ) (h : k < n) 
   pub ikeys-put : ikeysAt after k ≡ ks
   unfolding ikeysAt
   ikeys-put =
-      ap (part after (nodeStart k + 2)) after-count ∙ stored 2 (length ks) (omega arith) ∙ ap (λ (xs : List ℕ). part xs 2 (length ks)) unrolled
+      ap (part after (nodeStart k + 2)) after-count ∙ stored 2 (length ks) (omega arith)
+      ∙ ap (λ (xs : List ℕ). part xs 2 (length ks)) unrolled
       ∙ middle two ks (keyZeros ++ (cs ++ (childZeros ++ zeros 14))) 2 (length ks) refl refl
 
   pub children-put : childrenAt after k ≡ cs
   unfolding childrenAt
   children-put =
       ap (λ (c : ℕ). part after (nodeStart k + 17) (c + 1)) after-count ∙ stored 17 (length ks + 1) (omega arith)
-      ∙ ap (λ (xs : List ℕ). part xs 17 (length ks + 1)) (unrolled ∙ ap (λ (xs : List ℕ). two ++ xs) (sym (append-assoc ks keyZeros (cs ++ (childZeros ++ zeros 14))) ∙ sym (append-assoc (ks ++ keyZeros) cs (childZeros ++ zeros 14))))
+      ∙ ap (λ (xs : List ℕ). part xs 17 (length ks + 1))
+      (unrolled ∙ ap (λ (xs : List ℕ). two ++ xs) (sym (append-assoc ks keyZeros (cs ++ (childZeros ++ zeros 14)))
+      ∙ sym (append-assoc (ks ++ keyZeros) cs (childZeros ++ zeros 14))))
       ∙ middle (two ++ (ks ++ keyZeros)) cs (childZeros ++ zeros 14) 17 (length ks + 1) (omega (arith, keys-15)) one-more
 
   after-ikeys-zero : part after (nodeStart k + 2 + countAt after k) (15 - countAt after k) ≡ keyZeros
   after-ikeys-zero =
       let z : nodeStart k + 2 + length ks ≡ nodeStart k + (2 + length ks) = omega arith in
-      ap (λ (c : ℕ). part after (nodeStart k + 2 + c) (15 - c)) after-count ∙ ap (λ (a : ℕ). part after a (15 - length ks)) z ∙ stored (2 + length ks) (15 - length ks) (omega arith)
-      ∙ ap (λ (xs : List ℕ). part xs (2 + length ks) (15 - length ks)) (unrolled ∙ ap (λ (xs : List ℕ). two ++ xs) (sym (append-assoc ks keyZeros (cs ++ (childZeros ++ zeros 14)))))
-      ∙ middle (two ++ ks) keyZeros (cs ++ (childZeros ++ zeros 14)) (2 + length ks) (15 - length ks) (omega arith) (length-replicate (15 - length ks) 0)
+      ap (λ (c : ℕ). part after (nodeStart k + 2 + c) (15 - c)) after-count ∙ ap (λ (a : ℕ). part after a (15 - length ks)) z
+      ∙ stored (2 + length ks) (15 - length ks) (omega arith)
+      ∙ ap (λ (xs : List ℕ). part xs (2 + length ks) (15 - length ks))
+      (unrolled ∙ ap (λ (xs : List ℕ). two ++ xs) (sym (append-assoc ks keyZeros (cs ++ (childZeros ++ zeros 14)))))
+      ∙ middle (two ++ ks) keyZeros (cs ++ (childZeros ++ zeros 14)) (2 + length ks) (15 - length ks) (omega arith)
+      (length-replicate (15 - length ks) 0)
 
   after-rest-zero : part after (nodeStart k + 18 + countAt after k) (29 - countAt after k) ≡ zeros (16 - length cs + 14)
   after-rest-zero =
       let z : nodeStart k + 18 + length ks ≡ nodeStart k + (18 + length ks) = omega arith in
       let c29 : length (childZeros ++ zeros 14) ≡ 29 - length ks = simp (length-append, length-replicate) (omega arith) in
       let p18 : length (two ++ (ks ++ keyZeros ++ cs)) ≡ 18 + length ks = simp (length-append, length-replicate) (omega arith) in
-      ap (λ (c : ℕ). part after (nodeStart k + 18 + c) (29 - c)) after-count ∙ ap (λ (a : ℕ). part after a (29 - length ks)) z ∙ stored (18 + length ks) (29 - length ks) (omega arith)
+      ap (λ (c : ℕ). part after (nodeStart k + 18 + c) (29 - c)) after-count ∙ ap (λ (a : ℕ). part after a (29 - length ks)) z
+      ∙ stored (18 + length ks) (29 - length ks) (omega arith)
       ∙ ap (λ (xs : List ℕ). part xs (18 + length ks) (29 - length ks))
-      (unrolled ∙ ap (λ (xs : List ℕ). two ++ xs) (sym (append-assoc ks keyZeros (cs ++ (childZeros ++ zeros 14))) ∙ sym (append-assoc (ks ++ keyZeros) cs (childZeros ++ zeros 14)) ∙ sym (append-nil (ks ++ keyZeros ++ cs ++ (childZeros ++ zeros 14)))))
+      (unrolled ∙ ap (λ (xs : List ℕ). two ++ xs) (sym (append-assoc ks keyZeros (cs ++ (childZeros ++ zeros 14)))
+      ∙ sym (append-assoc (ks ++ keyZeros) cs (childZeros ++ zeros 14))
+      ∙ sym (append-nil (ks ++ keyZeros ++ cs ++ (childZeros ++ zeros 14)))))
       ∙ middle (two ++ (ks ++ keyZeros ++ cs)) (childZeros ++ zeros 14) [] (18 + length ks) (29 - length ks) p18 c29
       ∙ replicate-append-replicate (16 - length cs) 14 0
 
@@ -209,9 +224,9 @@ module _ (nodes : List ℕ) (n : ℕ) (N : Nodes nodes n) (k : ℕ) (h : k < n) 
         rest-zero = subst (λ (xs : List ℕ). T (allZero xs)) (sym after-rest-zero) (all-zeros (16 - length cs + 14));
       })
 
-  pub internode-put : T (rising ks) → Wrote nodes (internodePut nodes k (nodeOf ks cs)) n k (inner (map suc ks) cs)
+  pub internode-put : T (rising ks) → Wrote nodes (internodePut nodes k (nodeOf ks cs)) n k (internode (map suc ks) cs)
   unfolding internodePut
   internode-put t =
       let r = internode-put-right t in
-      put-wrote nodes n N k h words whole (inner (map suc ks) cs) (sound-internode after k r)
-      (view-internode after k r ∙ ap₂ (λ (a b : List ℕ). inner (map suc a) b) ikeys-put children-put)
+      put-wrote nodes n N k h words whole (internode (map suc ks) cs) (sound-internode after k r)
+      (view-internode after k r ∙ ap₂ (λ (a b : List ℕ). internode (map suc a) b) ikeys-put children-put)

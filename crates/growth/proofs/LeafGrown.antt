@@ -1,7 +1,7 @@
 -- A leaf with an entry more is the trees' leaf with that entry altered, in one node or in two. Assumes nothing.
 use mathlib.Core.Path.{_≡_, refl, sym, ap, ap₂, _∙_, subst}
-use mathlib.Core.Logic.{_≢_, ⊎-elim, _⊎_}
-use mathlib.Core.Bool.{Bool, true}
+use mathlib.Core.Logic.{_≢_, ⊎-elim}
+use mathlib.Core.Bool.{Bool, true, cond}
 use mathlib.Core.List.{List, [], _∷_, _++_, map}
 use mathlib.Core.Option.{none}
 use Prim.Native.Nat.{ℕ, suc, _+_, _-_, _%_, _≤_, _<_}
@@ -16,7 +16,7 @@ use Rattle.bank.specs.Calls.{insertFromBack}
 use Rattle.bank.proofs.Tests.{and-left, and-right, and-both, is-true, holds}
 use Rattle.nibbles.specs.Words.{validWord, wordOf}
 use Rattle.permuter.specs.Words.{changed}
-use Rattle.leaf.specs.declared.Entry.{Entry}
+use Rattle.leaf_entries.specs.declared.Entry.{Entry}
 use Rattle.leaf.specs.Lists.{every}
 use Rattle.leaf.specs.Leaf as leaf
 use Rattle.leaf.specs.Leaf.{slotsOf, isLess, against, rank, rising}
@@ -31,14 +31,16 @@ use Rattle.arena.specs.Layout.{nodeStart, wordAt, kindAt, putLeaf}
 use Rattle.arena.specs.Free.{freeNodes}
 use Rattle.arena.proofs.Words.{lt-or-ge}
 use Rattle.forest.specs.Nodes.{entryAt, entriesAt, ofClass, leafRight}
-use Rattle.forest.specs.Trees.{choose}
-use Rattle.trees.specs.SMap.{alter, alter-sorted, lookup, Sorted}
-use Rattle.trees.specs.Base.{Key, cmpK, key-order, leaf, Mem, get, cond, hit, hit-other}
-use Rattle.trees.specs.TreeA.{lowL}
-use Rattle.trees.specs.MemA.{frees, fresh, save, entries}
-use Rattle.trees.specs.Need.{leb-is, leb-not}
-use Rattle.trees.specs.Cut.{cut15}
-use Rattle.trees.specs.Lays.{Ptr}
+use Rattle.order.specs.Map.{alter, lookup, Sorted}
+use Rattle.order.proofs.Map.{alter-sorted}
+use Rattle.trees.specs.Nodes.{IkeyClass, layerOrder, leaf, NodeList, nodeIn, oneAt, leafEntries}
+use Rattle.trees.specs.FreeNumbers.{freeNumbers, lowestFree}
+use Rattle.trees.specs.TreePut.{lowOfEntries}
+use Rattle.trees.specs.Cut.{cutPlace}
+use Rattle.trees.specs.PutInMemory.{writeOrSplit}
+use Rattle.trees.specs.Layers.{Pointer}
+use Rattle.trees.proofs.Nodes.{layer-order, oneAt-other}
+use Rattle.trees.proofs.NeededInLayer.{leb-is, leb-not}
 use Rattle.model.specs.declared.Grown.{Grown}
 use Rattle.model.specs.declared.Grown.the-variants.{One, Two}
 use Rattle.model.specs.Leaves.{freshNode, entryPut, leafWith, fifteenAt, leafSplit, entryAdded, leafGrown}
@@ -55,7 +57,7 @@ grownPairs lo k One = (lo, k) ∷ []
 grownPairs lo k (Two ikey right) = (lo, k) ∷ (suc ikey, right) ∷ []
 
 -- words and what grew are the trees' answer: pairs and memory; a node in use that is none of its own keeps its words
-pub record Grows (own : ℕ → ℕ) (nodes : List ℕ) (n lo k : ℕ) (r : List ℕ × Grown) (b : List (ℕ × ℕ) × Mem Ptr) : Type 0 where
+pub record Grows (own : ℕ → ℕ) (nodes : List ℕ) (n lo k : ℕ) (r : List ℕ × Grown) (b : List (ℕ × ℕ) × NodeList Pointer) : Type 0 where
   pub still : Nodes (r .0) n
   pub pairs : grownPairs lo k (r .1) ≡ b .0
   pub view : View (r .0) n ≡ b .1
@@ -69,12 +71,14 @@ module _ (nodes : List ℕ) (k : ℕ) (t : T (leafRight nodes k)) where
 
   pub leaf-classes : T (every ofClass (entriesAt nodes k))
   unfolding leafRight
-  leaf-classes = and-left (every ofClass (entriesAt nodes k)) _ (and-right (validWord 15 (wordAt nodes k 1)) _ (and-right (eqb (kindAt nodes k) 1) _ t))
+  leaf-classes = and-left (every ofClass (entriesAt nodes k)) _
+      (and-right (validWord 15 (wordAt nodes k 1)) _ (and-right (eqb (kindAt nodes k) 1) _ t))
 
   pub leaf-length : length (entriesAt nodes k) ≡ wordAt nodes k 1 % 16
   leaf-length = ap length (entries-view nodes k leaf-valid) ∙ length-in-order (wordAt nodes k 1) leaf-valid (fifteen nodes k)
 
-module _ (nodes : List ℕ) (n : ℕ) (N : Nodes nodes n) (k : ℕ) (h : k < n) (t : T (leafRight nodes k)) (e : Entry) (small : e .class ≤ 9) where
+module _ (nodes : List ℕ) (n : ℕ) (N : Nodes nodes n) (k : ℕ) (h : k < n) (t : T (leafRight nodes k)) (e : Entry)
+    (small : e .class ≤ 9) where
   abbrev es : List Entry
   es = entriesAt nodes k
 
@@ -91,18 +95,21 @@ module _ (nodes : List ℕ) (n : ℕ) (N : Nodes nodes n) (k : ℕ) (h : k < n) 
   p-most = first-le (λ d. isLess (against (e .ikey) (rank e) d)) leaf.none es
 
   longer-length : length longer ≡ suc (length es)
-  longer-length = length-append (take p es) (e ∷ drop p es) ∙ (let z : length (take p es) + suc (length (drop p es)) ≡ suc (length es) = omega (arith, length-take-le p es p-most, length-drop p es, p-most) in z)
+  longer-length = length-append (take p es) (e ∷ drop p es)
+      ∙ (let z : length (take p es) + suc (length (drop p es))
+      ≡ suc (length es) = omega (arith, length-take-le p es p-most, length-drop p es, p-most) in z)
 
   longer-classes : T (every ofClass longer)
   unfolding every
   longer-classes =
       let c = is-true _ (leaf-classes nodes k t) in
       holds (every-join ofClass leaf.none (take p es) (e ∷ drop p es) (every-take ofClass leaf.none p es c)
-      (is-true (every ofClass (e ∷ drop p es)) (and-both (ofClass e) _ (le→leb (e .class) 10 (omega arith)) (holds (every-drop ofClass leaf.none p es c)))))
+      (is-true (every ofClass (e ∷ drop p es)) (and-both (ofClass e) _ (le→leb (e .class) 10 (omega arith))
+      (holds (every-drop ofClass leaf.none p es c)))))
 
-  module _ (new : lookup cmpK (keyOf e small) (map viewOf es) ≡ none) (so : Sorted cmpK (map viewOf es)) where
-    abbrev A : List (Key × Ptr)
-    A = alter cmpK (keyOf e small) (putting e small) (map viewOf es)
+  module _ (new : lookup layerOrder (keyOf e small) (map viewOf es) ≡ none) (so : Sorted layerOrder (map viewOf es)) where
+    abbrev A : List (IkeyClass × Pointer)
+    A = alter layerOrder (keyOf e small) (putting e small) (map viewOf es)
 
     A-is : A ≡ map viewOf longer
     A-is = altered e small es (leaf-classes nodes k t) new
@@ -111,7 +118,8 @@ module _ (nodes : List ℕ) (n : ℕ) (N : Nodes nodes n) (k : ℕ) (h : k < n) 
     A-length = ap length A-is ∙ length-map longer viewOf ∙ longer-length
 
     longer-rises : T (rising longer)
-    longer-rises = sorted-rises longer longer-classes (subst (Sorted cmpK) A-is (alter-sorted key-order (keyOf e small) (putting e small) so))
+    longer-rises = sorted-rises longer longer-classes
+        (subst (Sorted layerOrder) A-is (alter-sorted layer-order (keyOf e small) (putting e small) so))
 
     -- ---- with room
 
@@ -128,19 +136,22 @@ module _ (nodes : List ℕ) (n : ℕ) (N : Nodes nodes n) (k : ℕ) (h : k < n) 
       room-is : leafGrown nodes n k e ≡ (entryPut (set nodes (nodeStart k + 1) next) k slot e, One)
       unfolding leafGrown entryAdded
       room-is =
-          ap (λ (a : Answer). choose (eqb (a .number) 0) (entryPut (set nodes (nodeStart k + 1) (getD (a .values) 0 0)) k (getD (a .values) 1 0) e, One)
+          ap (λ (a : Answer). cond (eqb (a .number) 0)
+          (entryPut (set nodes (nodeStart k + 1) (getD (a .values) 0 0)) k (getD (a .values) 1 0) e, One)
           (leafSplit nodes n k (take p (fifteenAt nodes k) ++ e ∷ drop p (fifteenAt nodes k)))) accepts
 
-      grown-room : (lo : ℕ) → Grows (hit k) nodes n lo k (leafGrown nodes n k e) (save leaf lowL 15 (cut15 A) lo k A (View nodes n))
+      grown-room : (lo : ℕ) → Grows (oneAt k) nodes n lo k (leafGrown nodes n k e)
+          (writeOrSplit leaf lowOfEntries 15 (cutPlace A) lo k A (View nodes n))
       grown-room lo =
-          let s< : slot < 15 = slot-below word (leaf-valid nodes k t) (width (slotsOf word) - 1) (omega (arith, slots-wide word (leaf-valid nodes k t))) in
+          let s< : slot < 15 = slot-below word (leaf-valid nodes k t) (width (slotsOf word) - 1)
+          (omega (arith, slots-wide word (leaf-valid nodes k t))) in
           let W = entry-inserted nodes n N k h t p next slot s< accepts e longer-classes longer-rises in
           rw (room-is, leb-is (length A) 15 (omega (arith, A-length, leaf-length nodes k t))) (record {
             still = W .still;
             pairs = refl;
-            view = W .view ∙ ap (λ (xs : List (Key × Ptr)). set (View nodes n) k (leaf xs)) (sym A-is);
+            view = W .view ∙ ap (λ (xs : List (IkeyClass × Pointer)). set (View nodes n) k (leaf xs)) (sym A-is);
             head = W .head;
-            kept = λ j z u. W .others j (hit-other k j z);
+            kept = λ j z u. W .others j (oneAt-other k j z);
           })
 
     -- ---- without room
@@ -160,12 +171,18 @@ module _ (nodes : List ℕ) (n : ℕ) (N : Nodes nodes n) (k : ℕ) (h : k < n) 
 
       all-slots : fifteenAt nodes k ≡ es
       unfolding fifteenAt entriesAt
-      all-slots = ap (map (entryAt nodes k)) (sym (take-all (slotsOf word .size) (slotsOf word .slots) (omega (arith, slots-wide word (leaf-valid nodes k t), size-15))))
+      all-slots =
+          ap (map (entryAt nodes k))
+          (sym (take-all (slotsOf word .size) (slotsOf word .slots) (omega (arith, slots-wide word (leaf-valid nodes k t), size-15))))
 
       full-is : leafGrown nodes n k e ≡ leafSplit nodes n k longer
       unfolding leafGrown entryAdded
       full-is =
-          ap (λ (b : ℕ). choose (eqb b 0) (entryPut (set nodes (nodeStart k + 1) (getD (changed 15 word (insertFromBack p) .values) 0 0)) k (getD (changed 15 word (insertFromBack p) .values) 1 0) e, One)
+          ap (λ (b : ℕ). cond (eqb b 0) (
+            entryPut (set nodes (nodeStart k + 1) (getD (changed 15 word (insertFromBack p) .values) 0 0))
+                k (getD (changed 15 word (insertFromBack p) .values) 1 0) e,
+            One,
+          )
           (leafSplit nodes n k (take p (fifteenAt nodes k) ++ e ∷ drop p (fifteenAt nodes k)))) refuses
           ∙ ap (λ (xs : List Entry). leafSplit nodes n k (take p xs ++ e ∷ drop p xs)) all-slots
 
@@ -175,7 +192,8 @@ module _ (nodes : List ℕ) (n : ℕ) (N : Nodes nodes n) (k : ℕ) (h : k < n) 
       abbrev c : ℕ
       c = cutOf longer
 
-      grown-full : (lo : ℕ) → Grows (hit k) nodes n lo k (leafGrown nodes n k e) (save leaf lowL 15 (cut15 A) lo k A (View nodes n))
+      grown-full : (lo : ℕ) → Grows (oneAt k) nodes n lo k (leafGrown nodes n k e)
+          (writeOrSplit leaf lowOfEntries 15 (cutPlace A) lo k A (View nodes n))
       unfolding leafSplit
       grown-full lo =
           let r : rising longer ≡ true = is-true _ longer-rises in
@@ -188,46 +206,53 @@ module _ (nodes : List ℕ) (n : ℕ) (N : Nodes nodes n) (k : ℕ) (h : k < n) 
           let fr = free-of nodes n N fe in
           let f-is : freshNode nodes n ≡ f = ap (λ (l : List ℕ). getD l 0 0) fe in
           let m1 = putLeaf nodes k (leafWith (take c longer)) in
-          let W1 = leaf-put (take c longer) (omega arith) nodes n N k h (holds (every-take ofClass leaf.none c longer cl)) (holds (take-rises longer r c (omega (arith, sixteen)))) in
-          let W2 = leaf-put (drop c longer) (omega (arith, sixteen)) m1 n (W1 .still) f (fr .0) (holds (every-drop ofClass leaf.none c longer cl)) (holds (drop-rises longer r c)) in
-          let cut-is′ : cut15 A ≡ c = ap cut15 A-is ∙ cut-same longer sixteen in
-          let fresh-is : fresh (View nodes n) ≡ f = ap (λ (l : List ℕ). getD l 0 0) (frees-view nodes n N ∙ fe) in
-          let T1 : take (cut15 A) A ≡ map viewOf (take c longer) = ap₂ take cut-is′ A-is ∙ sym (map-take viewOf c longer) in
-          let T2 : drop (cut15 A) A ≡ map viewOf (drop c longer) = ap₂ drop cut-is′ A-is ∙ sym (map-drop viewOf c longer) in
-          let low : lowL (drop (cut15 A) A) ≡ suc (ikeyOf longer c) = ap lowL (ap₂ drop cut-is′ A-is) ∙ low-cut longer c (omega (arith, sixteen)) in
+          let W1 = leaf-put (take c longer) (omega arith) nodes n N k h (holds (every-take ofClass leaf.none c longer cl))
+          (holds (take-rises longer r c (omega (arith, sixteen)))) in
+          let W2 = leaf-put (drop c longer) (omega (arith, sixteen)) m1 n (W1 .still) f (fr .0)
+          (holds (every-drop ofClass leaf.none c longer cl)) (holds (drop-rises longer r c)) in
+          let cut-is′ : cutPlace A ≡ c = ap cutPlace A-is ∙ cut-same longer sixteen in
+          let fresh-is : lowestFree (View nodes n) ≡ f = ap (λ (l : List ℕ). getD l 0 0) (frees-view nodes n N ∙ fe) in
+          let T1 : take (cutPlace A) A ≡ map viewOf (take c longer) = ap₂ take cut-is′ A-is ∙ sym (map-take viewOf c longer) in
+          let T2 : drop (cutPlace A) A ≡ map viewOf (drop c longer) = ap₂ drop cut-is′ A-is ∙ sym (map-drop viewOf c longer) in
+          let low : lowOfEntries (drop (cutPlace A) A) ≡ suc (ikeyOf longer c) =
+          ap lowOfEntries (ap₂ drop cut-is′ A-is) ∙ low-cut longer c (omega (arith, sixteen)) in
           rw (full-is, f-is, leb-not (length A) 15 (omega (arith, A-length, leaf-length nodes k t)), low, fresh-is, T1, T2) (record {
             still = W2 .still;
             pairs = refl;
-            view = W2 .view ∙ ap (λ (m : Mem Ptr). set m f (entryNode (drop c longer))) (W1 .view);
+            view = W2 .view ∙ ap (λ (m : NodeList Pointer). set m f (entryNode (drop c longer))) (W1 .view);
             head = λ i l. W2 .head i l ∙ W1 .head i l;
-            kept = λ j z u i l. W2 .others j (λ q. u (ap (kindAt nodes) q ∙ fr .1)) i l ∙ W1 .others j (hit-other k j z) i l;
+            kept = λ j z u i l. W2 .others j (λ q. u (ap (kindAt nodes) q ∙ fr .1)) i l ∙ W1 .others j (oneAt-other k j z) i l;
           })
 
     -- ---- either
 
-    leaf-grown-entries : (lo : ℕ) → cond (leb (length A) 15) 0 1 ≤ length (frees 0 (View nodes n))
-        → Grows (hit k) nodes n lo k (leafGrown nodes n k e) (save leaf lowL 15 (cut15 A) lo k A (View nodes n))
+    leaf-grown-entries : (lo : ℕ) → cond (leb (length A) 15) 0 1 ≤ length (freeNumbers 0 (View nodes n))
+        → Grows (oneAt k) nodes n lo k (leafGrown nodes n k e) (writeOrSplit leaf lowOfEntries 15 (cutPlace A) lo k A (View nodes n))
     leaf-grown-entries lo enough = ⊎-elim (λ r. grown-room r lo) (λ g. with-free g (freeNodes nodes n) refl) (lt-or-ge (word % 16) 15)
       where
-        with-free : 15 ≤ word % 16 → (fs : List ℕ) → freeNodes nodes n ≡ fs → Grows (hit k) nodes n lo k (leafGrown nodes n k e) (save leaf lowL 15 (cut15 A) lo k A (View nodes n))
+        with-free : 15 ≤ word % 16 → (fs : List ℕ) → freeNodes nodes n ≡ fs
+            → Grows (oneAt k) nodes n lo k (leafGrown nodes n k e) (writeOrSplit leaf lowOfEntries 15 (cutPlace A) lo k A (View nodes n))
         with-free g [] fe =
-            let q : _≡_ {A = ℕ} (cond (leb (length A) 15) 0 1) 1 = ap (λ (b : Bool). cond {A = ℕ} b 0 1) (leb-not (length A) 15 (omega (arith, A-length, leaf-length nodes k t))) in
+            let q : _≡_ {A = ℕ} (cond (leb (length A) 15) 0 1) 1 =
+            ap (λ (b : Bool). cond {A = ℕ} b 0 1) (leb-not (length A) 15 (omega (arith, A-length, leaf-length nodes k t))) in
             absurd (omega (arith, enough, ap length (frees-view nodes n N ∙ fe)))
         with-free g (f ∷ fs) fe = grown-full g fe lo
 
   -- the entries of node k as the trees have them
-  abbrev pub entriesOf : List (Key × Ptr)
-  entriesOf = entries (get (View nodes n) k)
+  abbrev pub entriesOf : List (IkeyClass × Pointer)
+  entriesOf = leafEntries (nodeIn (View nodes n) k)
 
   entries-are : entriesOf ≡ map viewOf es
-  entries-are = ap entries (view-at nodes n k h ∙ view-leaf nodes k t)
+  entries-are = ap leafEntries (view-at nodes n k h ∙ view-leaf nodes k t)
 
-  pub leaf-grown : (lo : ℕ) → lookup cmpK (keyOf e small) entriesOf ≡ none → Sorted cmpK entriesOf
-      → cond (leb (length (alter cmpK (keyOf e small) (putting e small) entriesOf)) 15) 0 1 ≤ length (frees 0 (View nodes n))
-      → let xs = alter cmpK (keyOf e small) (putting e small) entriesOf in
-      Grows (hit k) nodes n lo k (leafGrown nodes n k e) (save leaf lowL 15 (cut15 xs) lo k xs (View nodes n))
+  pub leaf-grown : (lo : ℕ) → lookup layerOrder (keyOf e small) entriesOf ≡ none → Sorted layerOrder entriesOf
+      → cond (leb (length (alter layerOrder (keyOf e small) (putting e small) entriesOf)) 15) 0 1 ≤ length (freeNumbers 0 (View nodes n))
+      → let xs = alter layerOrder (keyOf e small) (putting e small) entriesOf in
+      Grows (oneAt k) nodes n lo k (leafGrown nodes n k e) (writeOrSplit leaf lowOfEntries 15 (cutPlace xs) lo k xs (View nodes n))
   leaf-grown lo =
-      subst (λ (es : List (Key × Ptr)). lookup cmpK (keyOf e small) es ≡ none → Sorted cmpK es
-      → cond (leb (length (alter cmpK (keyOf e small) (putting e small) es)) 15) 0 1 ≤ length (frees 0 (View nodes n))
-      → Grows (hit k) nodes n lo k (leafGrown nodes n k e) (save leaf lowL 15 (cut15 (alter cmpK (keyOf e small) (putting e small) es)) lo k (alter cmpK (keyOf e small) (putting e small) es) (View nodes n)))
+      subst (λ (es : List (IkeyClass × Pointer)). lookup layerOrder (keyOf e small) es ≡ none → Sorted layerOrder es
+      → cond (leb (length (alter layerOrder (keyOf e small) (putting e small) es)) 15) 0 1 ≤ length (freeNumbers 0 (View nodes n))
+      → Grows (oneAt k) nodes n lo k (leafGrown nodes n k e)
+      (writeOrSplit leaf lowOfEntries 15 (cutPlace (alter layerOrder (keyOf e small) (putting e small) es)) lo k
+      (alter layerOrder (keyOf e small) (putting e small) es) (View nodes n)))
       (sym entries-are) (λ new so enough. leaf-grown-entries new so lo enough)

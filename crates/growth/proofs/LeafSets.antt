@@ -3,7 +3,7 @@ use mathlib.Core.Path.{_≡_, refl, sym, ap, ap₂, _∙_, subst}
 use mathlib.Core.Logic.{_≢_}
 use mathlib.Core.Bool.{true}
 use mathlib.Core.List.{List, [], _∷_, _++_, map, map-append}
-use Prim.Native.Nat.{ℕ, _+_, _-_, _≤_, _<_}
+use Prim.Native.Nat.{ℕ, _+_, _≤_, _<_}
 use native.Mathlib.Omega.{arith}
 use lib.Dec.{T, eqb}
 use lib.ListN.{length, getD, set, take, drop, length-set, take-append-drop}
@@ -15,7 +15,7 @@ use Rattle.bank.proofs.Tests.{and-left, and-right, is-true}
 use Rattle.bank.proofs.Counts.{count-same, count-other, count-append}
 use Rattle.nibbles.specs.Words.{validWord}
 use Rattle.permuter.specs.Words.{changed}
-use Rattle.leaf.specs.declared.Entry.{Entry}
+use Rattle.leaf_entries.specs.declared.Entry.{Entry}
 use Rattle.leaf.specs.Lists.{every}
 use Rattle.leaf.specs.Leaf.{none, inUse, slotsOf, inOrder, rising}
 use Rattle.leaf.proofs.Leaves.{put-view, put-valid}
@@ -25,7 +25,8 @@ use Rattle.forest.specs.Nodes.{entryAt, slotsAt, entriesAt, restAt, ofClass, is
 use Rattle.model.specs.Leaves.{entryPut}
 use Rattle.growth.proofs.Frames.{Same, leaf-kind, sound-leaf, view-leaf}
 use Rattle.growth.proofs.Memory.{Nodes, node-fits, Wrote, wrote, tabled-set, tabled-same}
-use Rattle.growth.proofs.Columns.{fifteen, entries-view, RestZero, rest-if, rest-means, naming, names, names-length, names-set, used-named}
+use Rattle.growth.proofs.Columns.{fifteen, entries-view, RestZero, rest-if, rest-means, naming, names, names-length, names-set}
+use Rattle.growth.proofs.Columns.{used-named}
 use Rattle.growth.proofs.LeafWrites.{entryNode, leaf-if}
 
 -- ---- one word of node k set
@@ -61,7 +62,8 @@ module _ (m : List ℕ) (k slot : ℕ) (e : Entry) where
   abbrev pub at3 : List ℕ
   at3 = set at2 (nodeStart k + (32 + slot)) (e .at)
 
-entry-parts : {x y z x′ y′ z′ : ℕ} → x ≡ x′ → y ≡ y′ → z ≡ z′ → _≡_ {A = Entry} (record { ikey = x; class = y; at = z }) (record { ikey = x′; class = y′; at = z′ })
+entry-parts : {x y z x′ y′ z′ : ℕ} → x ≡ x′ → y ≡ y′ → z ≡ z′
+    → _≡_ {A = Entry} (record { ikey = x; class = y; at = z }) (record { ikey = x′; class = y′; at = z′ })
 entry-parts p q r = λ i. record { ikey = p i; class = q i; at = r i }
 
 module _ (m : List ℕ) (k slot : ℕ) (e : Entry) (s< : slot < 15) (fits : nodeStart k + 47 ≤ length m) where
@@ -105,22 +107,28 @@ module _ (m : List ℕ) (k slot : ℕ) (e : Entry) (s< : slot < 15) (fits : node
       ∙ set-beside m k (2 + slot) (e .ikey) 1 (λ z. omega arith)
 
   pub put3-kind : kindAt m3 k ≡ kindAt m k
-  put3-kind = set-kind m2 k (32 + slot) (e .at) (omega arith) ∙ set-kind m1 k (17 + slot) (e .class) (omega arith) ∙ set-kind m k (2 + slot) (e .ikey) (omega arith)
+  put3-kind = set-kind m2 k (32 + slot) (e .at) (omega arith) ∙ set-kind m1 k (17 + slot) (e .class) (omega arith)
+      ∙ set-kind m k (2 + slot) (e .ikey) (omega arith)
 
   put3-here : entryAt m3 k slot ≡ e
   put3-here =
       entry-parts
-      (set-beside m2 k (32 + slot) (e .at) (2 + slot) (λ z. omega arith) ∙ set-beside m1 k (17 + slot) (e .class) (2 + slot) (λ z. omega arith) ∙ set-here m k (2 + slot) (e .ikey) (omega arith) fits)
-      (set-beside m2 k (32 + slot) (e .at) (17 + slot) (λ z. omega arith) ∙ set-here m1 k (17 + slot) (e .class) (omega arith) (omega (arith, l1)))
+      (set-beside m2 k (32 + slot) (e .at) (2 + slot) (λ z. omega arith)
+      ∙ set-beside m1 k (17 + slot) (e .class) (2 + slot) (λ z. omega arith) ∙ set-here m k (2 + slot) (e .ikey) (omega arith) fits)
+      (set-beside m2 k (32 + slot) (e .at) (17 + slot) (λ z. omega arith)
+      ∙ set-here m1 k (17 + slot) (e .class) (omega arith) (omega (arith, l1)))
       (set-here m2 k (32 + slot) (e .at) (omega arith) (omega (arith, l2)))
 
   pub put3-beside : (s : ℕ) → s < 15 → s ≢ slot → entryAt m3 k s ≡ entryAt m k s
   put3-beside s l ne =
       let beside : (o : ℕ) → o + s ≢ o + slot = λ o z. ne (let y : s ≡ slot = omega arith in y) in
       entry-parts
-      (set-beside m2 k (32 + slot) (e .at) (2 + s) (λ z. omega arith) ∙ set-beside m1 k (17 + slot) (e .class) (2 + s) (λ z. omega arith) ∙ set-beside m k (2 + slot) (e .ikey) (2 + s) (beside 2))
-      (set-beside m2 k (32 + slot) (e .at) (17 + s) (λ z. omega arith) ∙ set-beside m1 k (17 + slot) (e .class) (17 + s) (beside 17) ∙ set-beside m k (2 + slot) (e .ikey) (17 + s) (λ z. omega arith))
-      (set-beside m2 k (32 + slot) (e .at) (32 + s) (beside 32) ∙ set-beside m1 k (17 + slot) (e .class) (32 + s) (λ z. omega arith) ∙ set-beside m k (2 + slot) (e .ikey) (32 + s) (λ z. omega arith))
+      (set-beside m2 k (32 + slot) (e .at) (2 + s) (λ z. omega arith) ∙ set-beside m1 k (17 + slot) (e .class) (2 + s) (λ z. omega arith)
+      ∙ set-beside m k (2 + slot) (e .ikey) (2 + s) (beside 2))
+      (set-beside m2 k (32 + slot) (e .at) (17 + s) (λ z. omega arith) ∙ set-beside m1 k (17 + slot) (e .class) (17 + s) (beside 17)
+      ∙ set-beside m k (2 + slot) (e .ikey) (17 + s) (λ z. omega arith))
+      (set-beside m2 k (32 + slot) (e .at) (32 + s) (beside 32) ∙ set-beside m1 k (17 + slot) (e .class) (32 + s) (λ z. omega arith)
+      ∙ set-beside m k (2 + slot) (e .ikey) (32 + s) (λ z. omega arith))
 
   pub put3-fifteen : fifteen m3 k ≡ set (fifteen m k) slot e
   put3-fifteen = tabled-set (entryAt m k) (entryAt m3 k) 15 slot e none s< put3-here (λ s l ne. put3-beside s l ne)
@@ -128,7 +136,8 @@ module _ (m : List ℕ) (k slot : ℕ) (e : Entry) (s< : slot < 15) (fits : node
 pub rest-zero : (m : List ℕ) (k : ℕ) → T (leafRight m k) → T (every isZero (restAt m k))
 unfolding leafRight
 rest-zero m k t =
-    and-right (rising (entriesAt m k)) _ (and-right (every ofClass (entriesAt m k)) _ (and-right (validWord 15 (wordAt m k 1)) _ (and-right (eqb (kindAt m k) 1) _ t)))
+    and-right (rising (entriesAt m k)) _ (and-right (every ofClass (entriesAt m k)) _
+    (and-right (validWord 15 (wordAt m k 1)) _ (and-right (eqb (kindAt m k) 1) _ t)))
 
 -- ---- an entry more by an accepted insertion
 
@@ -158,7 +167,8 @@ module _ (nodes : List ℕ) (n : ℕ) (N : Nodes nodes n) (k : ℕ) (h : k < n) 
 
   entry-kept : (s : ℕ) → entryAt worded k s ≡ entryAt nodes k s
   entry-kept s =
-      entry-parts (set-beside nodes k 1 next (2 + s) (λ z. omega arith)) (set-beside nodes k 1 next (17 + s) (λ z. omega arith)) (set-beside nodes k 1 next (32 + s) (λ z. omega arith))
+      entry-parts (set-beside nodes k 1 next (2 + s) (λ z. omega arith)) (set-beside nodes k 1 next (17 + s) (λ z. omega arith))
+      (set-beside nodes k 1 next (32 + s) (λ z. omega arith))
 
   word-next : wordAt after k 1 ≡ next
   word-next = put3-word worded k slot e s< fits1 ∙ set-here nodes k 1 next (omega arith) fits
@@ -195,14 +205,27 @@ module _ (nodes : List ℕ) (n : ℕ) (N : Nodes nodes n) (k : ℕ) (h : k < n) 
 
   not-slot : (s : ℕ) → count s (inUse (slotsAt after k)) ≡ 0 → s ≢ slot
   not-slot s z q =
-      omega (arith, ap (count s) (sym used-after) ∙ z, count-append s (take p U) (slot ∷ drop p U), ap (λ (x : ℕ). count x (slot ∷ drop p U)) q, count-same slot (drop p U))
+      omega (
+        arith,
+        ap (count s) (sym used-after) ∙ z,
+        count-append s (take p U) (slot ∷ drop p U),
+        ap (λ (x : ℕ). count x (slot ∷ drop p U)) q,
+        count-same slot (drop p U),
+      )
 
   after-rest : RestZero after k next-valid
   after-rest s l z =
       let ne = not-slot s z in
       let c : count s U ≡ 0 =
-      omega (arith, ap (count s) (sym used-after) ∙ z, count-append s (take p U) (slot ∷ drop p U), count-other slot s (drop p U) (λ q. ne (sym q)), count-parts s) in
-      subst (λ (x : Entry). T (isZero x)) (sym (put3-beside worded k slot e s< fits1 s l ne ∙ entry-kept s)) (rest-means nodes k valid zeros s l c)
+      omega (
+        arith,
+        ap (count s) (sym used-after) ∙ z,
+        count-append s (take p U) (slot ∷ drop p U),
+        count-other slot s (drop p U) (λ q. ne (sym q)),
+        count-parts s,
+      ) in
+      subst (λ (x : Entry). T (isZero x)) (sym (put3-beside worded k slot e s< fits1 s l ne ∙ entry-kept s))
+      (rest-means nodes k valid zeros s l c)
     where
       zeros : T (every isZero (restAt nodes k))
       zeros = rest-zero nodes k t
@@ -214,7 +237,8 @@ module _ (nodes : List ℕ) (n : ℕ) (N : Nodes nodes n) (k : ℕ) (h : k < n) 
   entry-inserted c r =
       let kind : kindAt after k ≡ 1 = put3-kind worded k slot e s< fits1 ∙ set-kind nodes k 1 next (omega arith) ∙ leaf-kind nodes k t in
       let right : T (leafRight after k) =
-      leaf-if after k kind next-valid (subst (λ (xs : List Entry). T (every ofClass xs)) (sym entries-inserted) c) (subst (λ (xs : List Entry). T (rising xs)) (sym entries-inserted) r)
+      leaf-if after k kind next-valid (subst (λ (xs : List Entry). T (every ofClass xs)) (sym entries-inserted) c)
+      (subst (λ (xs : List Entry). T (rising xs)) (sym entries-inserted) r)
       (rest-if after k next-valid after-rest) in
       subst (λ (m : List ℕ). Wrote nodes m n k (entryNode longer)) (sym three)
       (wrote nodes after n N k h (entryNode longer) (put3-length worded k slot e s< fits1 ∙ length-set nodes (nodeStart k + 1) next)

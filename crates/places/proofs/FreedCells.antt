@@ -1,13 +1,14 @@
 -- A cell freed in lent memory: it is seen as nothing, and every other cell is as it was. Assumes nothing.
 use mathlib.Core.Path.{_≡_, sym, ap, _∙_, subst}
+use mathlib.Core.Bool.{cond}
 use mathlib.Core.Logic.{⊎-elim, inl, inr}
-use mathlib.Core.List.{List, _++_}
+use mathlib.Core.List.{List}
 use mathlib.Core.Option.{none, some}
 use Prim.Native.Nat.{ℕ, zero, suc, _+_, _*_, _-_, _≤_, _<_}
 use native.Mathlib.Omega.{arith}
 use native.Mathlib.Decide.{ℕ-discrete}
 use lib.Dec.{T, eqb}
-use lib.ListN.{length, set, take, length-replicate}
+use lib.ListN.{length, set, length-replicate}
 use Rattle.bank.proofs.Tests.{and-both}
 use Rattle.order.specs.Bytes as order
 use Rattle.order.specs.Bytes.{Bytes}
@@ -15,12 +16,12 @@ use Rattle.leaf.specs.Lists.{every}
 use Rattle.arena.specs.Parts.{part, putPart, zeros}
 use Rattle.arena.specs.Layout.{cellStart, keyStart, markAt, frameAt, keyAt, freedCell, freedKey}
 use Rattle.arena.proofs.Words.{part-kept, put-out}
-use Rattle.arena.proofs.Cells.{cells-apart, keys-apart, cell-stored, cell-kept, mark-kept, cells-length, mark-freed, bytes-stored, bytes-kept, bytes-length}
+use Rattle.arena.proofs.Cells.{cells-apart, keys-apart, cell-stored, cell-kept, mark-kept, cells-length, mark-freed, bytes-stored}
+use Rattle.arena.proofs.Cells.{bytes-kept, bytes-length}
 use Rattle.forest.specs.Nodes.{allZero}
 use Rattle.forest.specs.Cells.{cellRight, cellFree}
-use Rattle.forest.specs.Trees.{choose}
 use Rattle.views.specs.Views.{tabled, cellView, cellSound}
-use Rattle.order.proofs.Bytes.{bytes-drop}
+use Rattle.order.proofs.Bytes.{bytes-drop, bytes-take, bytes-append}
 use Rattle.views.proofs.Nodes.{set-tabled, free-cell-view, cell-cases, free-mark, free-cell-sound, right-cell-sound, right-mark}
 
 zeros-zero : (n : ℕ) → T (allZero (zeros n))
@@ -76,7 +77,10 @@ module _ (cells bytes : List ℕ) (C : ℕ) (long : length cells ≡ C * 2) (wid
 
     still-free : j < C → T (cellFree cells bytes j) → T (cellFree (freedCell cells c) (freedKey bytes c) j)
     unfolding cellFree
-    still-free i t = rw (cell-kept cells c cells-fit (zeros 2) two j (omega arith) ne, bytes-kept bytes c bytes-fit (zeros 256) many j (omega arith) ne) t
+    still-free i t = rw (
+      cell-kept cells c cells-fit (zeros 2) two j (omega arith) ne,
+      bytes-kept bytes c bytes-fit (zeros 256) many j (omega arith) ne,
+    ) t
 
     still-right : j < C → T (cellRight cells bytes j) → T (cellRight (freedCell cells c) (freedKey bytes c) j)
     unfolding cellRight
@@ -90,10 +94,12 @@ module _ (cells bytes : List ℕ) (C : ℕ) (long : length cells ≡ C * 2) (wid
       where
         go : Dec (j ≡ c) → T (cellSound (freedCell cells c) (freedKey bytes c) j)
         go (yes e) = free-cell-sound _ _ j (subst (λ (x : ℕ). T (cellFree (freedCell cells c) (freedKey bytes c) x)) (sym e) here-free)
-        go (no ne) = cell-cases cells bytes j (sound j i) (λ f. free-cell-sound _ _ j (still-free j ne i f)) (λ r. right-cell-sound _ _ j (still-right j ne i r))
+        go (no ne) = cell-cases cells bytes j (sound j i) (λ f. free-cell-sound _ _ j (still-free j ne i f))
+            (λ r. right-cell-sound _ _ j (still-right j ne i r))
 
     most-mark : (j : ℕ) → j < C → markAt cells j ≤ 257
-    most-mark j i = cell-cases cells bytes j (sound j i) (λ f. omega (arith, free-mark cells bytes j f)) (λ r. right-mark cells bytes j r .1)
+    most-mark j i = cell-cases cells bytes j (sound j i) (λ f. omega (arith, free-mark cells bytes j f))
+        (λ r. right-mark cells bytes j r .1)
 
     other-view : (j : ℕ) → j < C → (j ≡ c → ⊥) → cellView (freedCell cells c) (freedKey bytes c) j ≡ cellView cells bytes j
     unfolding cellView
@@ -101,7 +107,7 @@ module _ (cells bytes : List ℕ) (C : ℕ) (long : length cells ≡ C * 2) (wid
         let mark = mark-same j ne in
         let key = key-same j ne i (most-mark j i) in
         let frame = frame-same j ne in
-        λ x. choose (eqb (mark x) 0) none (some (key x, frame x))
+        λ x. cond (eqb (mark x) 0) none (some (key x, frame x))
 
     pub freed-view : tabled (cellView (freedCell cells c) (freedKey bytes c)) 0 C ≡ set (tabled (cellView cells bytes) 0 C) c none
     freed-view =
@@ -109,16 +115,7 @@ module _ (cells bytes : List ℕ) (C : ℕ) (long : length cells ≡ C * 2) (wid
         (free-cell-view (freedCell cells c) (freedKey bytes c) c (mark-freed cells c cells-fit)) (λ j i ne. other-view j i ne))
 
 -- bytes stay bytes
-bytes-append : {xs ys : List ℕ} → Bytes xs → Bytes ys → Bytes (xs ++ ys)
-bytes-append order.none b = b
-bytes-append (order.more h a) b = order.more h (bytes-append a b)
-
-bytes-take : (n : ℕ) {xs : List ℕ} → Bytes xs → Bytes (take n xs)
-bytes-take zero b = order.none
-bytes-take (suc n) order.none = order.none
-bytes-take (suc n) (order.more h b) = order.more h (bytes-take n b)
-
-bytes-zeros : (n : ℕ) → Bytes (zeros n)
+pub bytes-zeros : (n : ℕ) → Bytes (zeros n)
 bytes-zeros zero = order.none
 bytes-zeros (suc n) = order.more {x = 0} (omega arith) (bytes-zeros n)
 

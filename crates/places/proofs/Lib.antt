@@ -1,5 +1,3 @@
-pub mod Maps
-pub mod Keys
 pub mod Entries
 pub mod Down
 pub mod Looks

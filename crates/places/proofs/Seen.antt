@@ -19,15 +19,16 @@ use Rattle.arena.proofs.Words.{lt-or-ge, part-length}
 use Rattle.arena.proofs.Measures.{Right}
 use Rattle.model.specs.Meet.{meet}
 use Rattle.model.specs.Calls.{place}
-use Rattle.trees.specs.MemA.{times}
+use Rattle.trees.specs.FreeNumbers.{timesIn}
 use Rattle.trees.specs.Cells.{cellAt}
-use Rattle.trees.specs.Lays.{Lay}
-use Rattle.trees.specs.Index.{ones-le, usesL, under-top}
+use Rattle.trees.specs.Layers.{Layered}
+use Rattle.trees.specs.WholeTree.{layerUses}
+use Rattle.trees.proofs.WholeTree.{onesBelow-le, below-no-links}
 use Rattle.views.specs.Views.{cellsView, Sound}
-use Rattle.views.proofs.Nodes.{nodesIn, cellsIn, cell-at, cell-beyond, free-cell-view, used-cell-view, free-cells-view, cell-cases, free-mark, right-mark}
+use Rattle.views.proofs.Nodes.{nodesIn, cellsIn, cell-at, cell-beyond, free-cell-view, used-cell-view, free-cells-view, cell-cases}
+use Rattle.views.proofs.Nodes.{free-mark, right-mark}
 use Rattle.views.proofs.Balance.{Balanced, counted-fails}
 use Rattle.views.proofs.Whole.{ViewIsTree, lengths}
-use Rattle.places.proofs.Maps.{tree-bytes}
 use Rattle.places.proofs.Meets.{Whole, Way, meets}
 
 module _ (m : Memory) (sound : Sound m) where
@@ -49,17 +50,21 @@ module _ (m : Memory) (sound : Sound m) where
       ⊎-elim (λ h. go (eqb (markAt (m .cells) c) 0) (eqb-true (markAt (m .cells) c) 0) h refl)
       (λ h. key-of c none (cell-beyond m c h) ∙ sym (no-key c (beyond-mark c h))) (lt-or-ge c (cellsIn m))
     where
-      go : (b : Bool) → (b ≡ true → markAt (m .cells) c ≡ 0) → c < cellsIn m → eqb (markAt (m .cells) c) 0 ≡ b → (cellAt (cellsView m) c) .0 ≡ keyAt (m .cells) (m .bytes) c
+      go : (b : Bool) → (b ≡ true → markAt (m .cells) c ≡ 0) → c < cellsIn m → eqb (markAt (m .cells) c) 0 ≡ b
+          → (cellAt (cellsView m) c) .0 ≡ keyAt (m .cells) (m .bytes) c
       go true f h q = key-of c none (cell-at m c h ∙ free-cell-view (m .cells) (m .bytes) c (f refl)) ∙ sym (no-key c (f refl))
       go false f h q =
           key-of c (some (keyAt (m .cells) (m .bytes) c, frameAt (m .cells) c))
-          (cell-at m c h ∙ used-cell-view (m .cells) (m .bytes) c (λ z. let y : true ≡ false = sym (eq-eqb (markAt (m .cells) c) 0 z) ∙ q in let x : _≡_ {A = ℕ} 0 1 = cc in omega arith))
+          (cell-at m c h ∙ used-cell-view (m .cells) (m .bytes) c
+          (λ z. let y : true ≡ false = sym (eq-eqb (markAt (m .cells) c) 0 z) ∙ q in let x : _≡_ {A = ℕ} 0 1 = cc in omega arith))
 
   pub seen-frame : (c : ℕ) → 1 ≤ markAt (m .cells) c → (cellAt (cellsView m) c) .1 ≡ frameAt (m .cells) c
   seen-frame c h =
-      ⊎-elim (λ g. frame-of (cell-at m c g ∙ used-cell-view (m .cells) (m .bytes) c (λ z. omega arith))) (λ g. absurd (omega (arith, beyond-mark c g))) (lt-or-ge c (cellsIn m))
+      ⊎-elim (λ g. frame-of (cell-at m c g ∙ used-cell-view (m .cells) (m .bytes) c (λ z. omega arith)))
+      (λ g. absurd (omega (arith, beyond-mark c g))) (lt-or-ge c (cellsIn m))
     where
-      frame-of : getD (cellsView m) c none ≡ some (keyAt (m .cells) (m .bytes) c, frameAt (m .cells) c) → (cellAt (cellsView m) c) .1 ≡ frameAt (m .cells) c
+      frame-of : getD (cellsView m) c none ≡ some (keyAt (m .cells) (m .bytes) c, frameAt (m .cells) c)
+          → (cellAt (cellsView m) c) .1 ≡ frameAt (m .cells) c
       frame-of e = rw e
 
   -- a cell in use is in memory, and has its whole key there
@@ -70,18 +75,19 @@ module _ (m : Memory) (sound : Sound m) where
   whole-cell c h =
       let inside = marked-inside c h in
       let most : markAt (m .cells) c ≤ 257 =
-      cell-cases (m .cells) (m .bytes) c (sound .cells-sound c inside) (λ f. omega (arith, free-mark (m .cells) (m .bytes) c f)) (λ r. right-mark (m .cells) (m .bytes) c r .1) in
+      cell-cases (m .cells) (m .bytes) c (sound .cells-sound c inside) (λ f. omega (arith, free-mark (m .cells) (m .bytes) c f))
+      (λ r. right-mark (m .cells) (m .bytes) c r .1) in
       record { marked = h; long = part-length (m .bytes) (keyStart c) (markAt (m .cells) c - 1) (omega (arith, right .bytes-whole)) }
 
-  module _ (w : Lay 31) (t : ViewIsTree m w) where
+  module _ (w : Layered 31) (t : ViewIsTree m w) where
     -- a cell that the layers use is in use
-    pub used-mark : (c : ℕ) → 0 < usesL 31 w c → 1 ≤ markAt (m .cells) c
+    pub used-mark : (c : ℕ) → 0 < layerUses 31 w c → 1 ≤ markAt (m .cells) c
     used-mark c u =
-        let (inside, used) = counted-fails (isFree cellStart (m .cells)) (cellsIn m) (usesL 31 w c) c balance u in
+        let (inside, used) = counted-fails (isFree cellStart (m .cells)) (cellsIn m) (layerUses 31 w c) c balance u in
         some-mark (markAt (m .cells) c) used
       where
-        balance : Balanced (isFree cellStart (m .cells)) (cellsIn m) (usesL 31 w c) c
-        balance = ap (λ (ks : List ℕ). usesL 31 w c + times ks c) (sym (free-cells-view m)) ∙ t .cells c
+        balance : Balanced (isFree cellStart (m .cells)) (cellsIn m) (layerUses 31 w c) c
+        balance = ap (λ (ks : List ℕ). layerUses 31 w c + timesIn ks c) (sym (free-cells-view m)) ∙ t .cells c
 
         some-mark : (n : ℕ) → eqb n 0 ≡ false → 1 ≤ n
         some-mark zero e = let z : _≡_ {A = ℕ} 0 1 = cc (eq-eqb 0 0 refl) in absurd (omega arith)
@@ -91,5 +97,5 @@ module _ (m : Memory) (sound : Sound m) where
     pub place-way : (K : List ℕ) → Bytes K → Way m K 31 w [] 0 (place m K)
     place-way K b =
         subst (λ (r : ℕ). Way m K 31 w [] 0 (meet 31 m K 0 0 r)) (t .rooted)
-        (meets m K (right .nodes-whole) (right .n-high) (cellAt (cellsView m)) 31 w [] 0 (under-top K (tree-bytes b)) (t .holds) (t .good)
-        (λ j. omega (arith, t .nodes j, ones-le (nodesIn m) j)) (λ c u. whole-cell c (used-mark c u)))
+        (meets m K (right .nodes-whole) (right .n-high) (cellAt (cellsView m)) 31 w [] 0 (below-no-links K b) (t .holds) (t .good)
+        (λ j. omega (arith, t .nodes j, onesBelow-le (nodesIn m) j)) (λ c u. whole-cell c (used-mark c u)))

@@ -18,7 +18,7 @@ use Rattle.bank.proofs.Tests.{and-right, holds, is-true}
 use Rattle.bank.proofs.Counts.{count-other, count-append}
 use Rattle.nibbles.specs.Words.{validWord, wordOf}
 use Rattle.permuter.specs.Words.{changed}
-use Rattle.leaf.specs.declared.Entry.{Entry}
+use Rattle.leaf_entries.specs.declared.Entry.{Entry}
 use Rattle.leaf.specs.Lists.{every}
 use Rattle.leaf.specs.Leaf.{none, inUse, slotsOf, inOrder, rising}
 use Rattle.leaf.proofs.Leaves.{take-accepted, take-view, take-valid, change-view}
@@ -30,7 +30,8 @@ use Rattle.growth.proofs.Frames.{slot-below, slots-wide, size-most, leaf-kind, 
 use Rattle.growth.proofs.Memory.{Nodes, node-fits, Wrote, wrote, tabled-same, tabled-length}
 use Rattle.growth.proofs.Columns.{fifteen, fifteen-at, entries-view, RestZero, rest-if, rest-means, names, used-named}
 use Rattle.growth.proofs.LeafWrites.{entryNode, leaf-if}
-use Rattle.growth.proofs.LeafSets.{set-here, set-beside, set-elsewhere, set-kind, set-head, put-is, put3-length, put3-head, put3-elsewhere, put3-word, put3-kind, put3-beside, put3-fifteen}
+use Rattle.growth.proofs.LeafSets.{set-here, set-beside, set-elsewhere, set-kind, set-head, put-is, put3-length, put3-head, put3-elsewhere}
+use Rattle.growth.proofs.LeafSets.{put3-word, put3-kind, put3-beside, put3-fifteen}
 use Rattle.growth.proofs.LeafGrown.{leaf-valid, leaf-classes, leaf-length}
 
 -- the list without its member at a position
@@ -38,14 +39,17 @@ abbrev pub withoutAt : {A : Type 0} → ℕ → List A → List A
 withoutAt p xs = take p xs ++ drop (suc p) xs
 
 -- what a change at the position does not matter to
-without-changed : {A : Type 0} (p : ℕ) (xs : List A) (y : A) → p < length xs → withoutAt p (take p xs ++ y ∷ drop (suc p) xs) ≡ withoutAt p xs
+without-changed : {A : Type 0} (p : ℕ) (xs : List A) (y : A) → p < length xs
+    → withoutAt p (take p xs ++ y ∷ drop (suc p) xs) ≡ withoutAt p xs
 without-changed p xs y h =
     let n : length (take p xs) ≡ p = length-take-le p xs (omega arith) in
     ap₂ _++_ (take-at (take p xs) (y ∷ drop (suc p) xs) p n)
-    (let e : p + 1 ≡ suc p = omega arith in ap (λ (i : ℕ). drop i (take p xs ++ y ∷ drop (suc p) xs)) (sym e) ∙ sym (drop-drop 1 p (take p xs ++ y ∷ drop (suc p) xs))
+    (let e : p + 1 ≡ suc p = omega arith in ap (λ (i : ℕ). drop i (take p xs ++ y ∷ drop (suc p) xs)) (sym e)
+    ∙ sym (drop-drop 1 p (take p xs ++ y ∷ drop (suc p) xs))
     ∙ ap (drop 1) (drop-at (take p xs) (y ∷ drop (suc p) xs) p n))
 
-module _ (nodes : List ℕ) (n : ℕ) (N : Nodes nodes n) (k : ℕ) (h : k < n) (t : T (leafRight nodes k)) (p : ℕ) (l : p < length (entriesAt nodes k)) where
+module _ (nodes : List ℕ) (n : ℕ) (N : Nodes nodes n) (k : ℕ) (h : k < n) (t : T (leafRight nodes k)) (p : ℕ)
+    (l : p < length (entriesAt nodes k)) where
   valid : validWord 15 (wordAt nodes k 1) ≡ true
   valid = leaf-valid nodes k t
 
@@ -79,11 +83,16 @@ module _ (nodes : List ℕ) (n : ℕ) (N : Nodes nodes n) (k : ℕ) (h : k < n) 
   taken-is : entryTaken nodes k p ≡ after
   unfolding entryTaken
   taken-is =
-      ap (λ (a : Answer). entryPut (set nodes (nodeStart k + 1) (getD (a .values) 0 0)) k slot none) accepts ∙ put-is worded k slot none slot< fits1
+      ap (λ (a : Answer). entryPut (set nodes (nodeStart k + 1) (getD (a .values) 0 0)) k slot none) accepts
+      ∙ put-is worded k slot none slot< fits1
 
   entry-kept : (s : ℕ) → entryAt worded k s ≡ entryAt nodes k s
   entry-kept s =
-      rw (set-beside nodes k 1 next (2 + s) (λ z. omega arith), set-beside nodes k 1 next (17 + s) (λ z. omega arith), set-beside nodes k 1 next (32 + s) (λ z. omega arith))
+      rw (
+        set-beside nodes k 1 next (2 + s) (λ z. omega arith),
+        set-beside nodes k 1 next (17 + s) (λ z. omega arith),
+        set-beside nodes k 1 next (32 + s) (λ z. omega arith),
+      )
 
   word-next : wordAt after k 1 ≡ next
   word-next = put3-word worded k slot none slot< fits1 ∙ set-here nodes k 1 next (omega arith) fits
@@ -125,20 +134,27 @@ module _ (nodes : List ℕ) (n : ℕ) (N : Nodes nodes n) (k : ℕ) (h : k < n) 
       ∙ ap₂ (λ (x y : List ℕ). x ++ y) (map-take g p O ∙ ap (take p) u) (map-drop g (suc p) O ∙ ap (drop (suc p)) u)
 
   U-long : p < length U
-  U-long = omega (arith, length-take-le (slotsAt nodes k .size) (slotsAt nodes k .slots) (omega (arith, size-most (wordAt nodes k 1) valid, slots-wide (wordAt nodes k 1) valid)), in-use)
+  U-long = omega (
+    arith,
+    length-take-le (slotsAt nodes k .size) (slotsAt nodes k .slots)
+        (omega (arith, size-most (wordAt nodes k 1) valid, slots-wide (wordAt nodes k 1) valid)),
+    in-use,
+  )
 
   U-parts : (s : ℕ) → slot ≢ s → count s (withoutAt p U) ≡ count s U
   U-parts s ne =
       let here : getD U p 0 ≡ slot = getD-take (slotsAt nodes k .size) (slotsAt nodes k .slots) p 0 in-use in
       count-append s (take p U) (drop (suc p) U)
-      ∙ ap (λ (c : ℕ). count s (take p U) + c) (sym (ap (count s) (drop-cons U p 0 U-long) ∙ count-other (getD U p 0) s (drop (suc p) U) (λ e. ne (sym here ∙ e))))
+      ∙ ap (λ (c : ℕ). count s (take p U) + c)
+      (sym (ap (count s) (drop-cons U p 0 U-long) ∙ count-other (getD U p 0) s (drop (suc p) U) (λ e. ne (sym here ∙ e))))
       ∙ sym (count-append s (take p U) (drop p U)) ∙ ap (count s) (take-append-drop p U)
 
   zeros : T (every isZero (restAt nodes k))
   unfolding leafRight
   zeros =
       and-right (rising (entriesAt nodes k)) _
-      (and-right (every ofClass (entriesAt nodes k)) _ (and-right (validWord 15 (wordAt nodes k 1)) _ (and-right (eqb (kindAt nodes k) 1) _ t)))
+      (and-right (every ofClass (entriesAt nodes k)) _
+      (and-right (validWord 15 (wordAt nodes k 1)) _ (and-right (eqb (kindAt nodes k) 1) _ t)))
 
   zero-slot : entryAt after k slot ≡ none
   zero-slot =
@@ -157,18 +173,21 @@ module _ (nodes : List ℕ) (n : ℕ) (N : Nodes nodes n) (k : ℕ) (h : k < n) 
   shorter-classes : T (every ofClass (withoutAt p (entriesAt nodes k)))
   shorter-classes =
       let all = is-true _ (leaf-classes nodes k t) in
-      holds (every-join ofClass none (take p (entriesAt nodes k)) (drop (suc p) (entriesAt nodes k)) (every-take ofClass none p (entriesAt nodes k) all) (every-drop ofClass none (suc p) (entriesAt nodes k) all))
+      holds (every-join ofClass none (take p (entriesAt nodes k)) (drop (suc p) (entriesAt nodes k))
+      (every-take ofClass none p (entriesAt nodes k) all) (every-drop ofClass none (suc p) (entriesAt nodes k) all))
 
   -- where what is left rises, the node is a leaf with what is left
   pub entry-taken : (T (every ofClass (withoutAt p (entriesAt nodes k))) → T (rising (withoutAt p (entriesAt nodes k))))
       → Wrote nodes (entryTaken nodes k p) n k (entryNode (withoutAt p (entriesAt nodes k)))
   entry-taken r =
-      let kind : kindAt after k ≡ 1 = put3-kind worded k slot none slot< fits1 ∙ set-kind nodes k 1 next (omega arith) ∙ leaf-kind nodes k t in
+      let kind : kindAt after k ≡ 1 = put3-kind worded k slot none slot< fits1 ∙ set-kind nodes k 1 next (omega arith)
+      ∙ leaf-kind nodes k t in
       let right : T (leafRight after k) =
       leaf-if after k kind next-valid (subst (λ (xs : List Entry). T (every ofClass xs)) (sym entries-taken) shorter-classes)
       (subst (λ (xs : List Entry). T (rising xs)) (sym entries-taken) (r shorter-classes)) (rest-if after k next-valid after-rest) in
       subst (λ (m : List ℕ). Wrote nodes m n k (entryNode (withoutAt p (entriesAt nodes k)))) (sym taken-is)
-      (wrote nodes after n N k h (entryNode (withoutAt p (entriesAt nodes k))) (put3-length worded k slot none slot< fits1 ∙ length-set nodes (nodeStart k + 1) next)
+      (wrote nodes after n N k h (entryNode (withoutAt p (entriesAt nodes k)))
+      (put3-length worded k slot none slot< fits1 ∙ length-set nodes (nodeStart k + 1) next)
       (λ i b. put3-head worded k slot none slot< fits1 i b ∙ set-head nodes k 1 next i b)
       (λ j ne i b. put3-elsewhere worded k slot none slot< fits1 j ne i b ∙ set-elsewhere nodes k 1 next (omega arith) j ne i b)
       (sound-leaf after k right) (view-leaf after k right ∙ ap entryNode entries-taken))

@@ -14,8 +14,8 @@ use Rattle.forest.specs.Nodes.{entriesAt}
 use Rattle.model.specs.Meet.{numberWord}
 use Rattle.model.specs.declared.Met.{Met}
 use Rattle.model.specs.declared.Met.the-variants.{Stored, Conflict}
-use Rattle.trees.specs.Trie.{down}
-use Rattle.trees.specs.Lays.{Ptr, Lay, oneV}
+use Rattle.trees.specs.Paths.{pathDown}
+use Rattle.trees.specs.Layers.{Pointer, Layered, layeredCell}
 use Rattle.places.proofs.Meets.{Entered, Way, missing, stored, conflict, below}
 
 none-not-some : {A B : Type 0} {x : A} → none ≡ some x → B
@@ -24,7 +24,7 @@ none-not-some e = let z : _≡_ {A = ℕ} 0 1 = cc in absurd (omega arith)
 some-same : {A : Type 0} {x y : A} → some x ≡ some y → x ≡ y
 some-same e = cc
 
-one-same : (l c d : ℕ) → oneV l c ≡ oneV l d → c ≡ d
+one-same : (l c d : ℕ) → layeredCell l c ≡ layeredCell l d → c ≡ d
 one-same zero c d e = e
 one-same (suc l) c d e = cc
 
@@ -36,14 +36,16 @@ cell-not-link e = let z : _≡_ {A = ℕ} 0 1 = cc in absurd (omega arith)
 
 module _ (m : Memory) (K : List ℕ) where
   -- one leaf and one position
-  entered-leaf : {root links lf p lf′ p′ : ℕ} {x y : Ptr} → Entered m K root links lf p x → Entered m K root links lf′ p′ y → lf ≡ lf′
+  entered-leaf : {root links lf p lf′ p′ : ℕ} {x y : Pointer} → Entered m K root links lf p x → Entered m K root links lf′ p′ y → lf ≡ lf′
   entered-leaf E F = E .leaf-is ∙ sym (F .leaf-is)
 
-  entered-place : {root links lf p lf′ p′ : ℕ} {x y : Ptr} → Entered m K root links lf p x → Entered m K root links lf′ p′ y → p ≡ p′
+  entered-place : {root links lf p lf′ p′ : ℕ} {x y : Pointer} → Entered m K root links lf p x → Entered m K root links lf′ p′ y → p ≡ p′
   entered-place {links = links} E F =
-      E .place-is ∙ ap (λ (n : ℕ). placeEqual (ikeyAt K (8 * links)) (classAt K (8 * links)) (entriesAt (m .nodes) n)) (entered-leaf E F) ∙ sym (F .place-is)
+      E .place-is ∙ ap (λ (n : ℕ). placeEqual (ikeyAt K (8 * links)) (classAt K (8 * links)) (entriesAt (m .nodes) n)) (entered-leaf E F)
+      ∙ sym (F .place-is)
 
-  pub way-one : {l : ℕ} {v : Lay l} {ks : List ℕ} {holder : ℕ} {o o′ : Met} → Way m K l v ks holder o → Way m K l v ks holder o′ → o ≡ o′
+  pub way-one : {l : ℕ} {v : Layered l} {ks : List ℕ} {holder : ℕ} {o o′ : Met} → Way m K l v ks holder o → Way m K l v ks holder o′
+      → o ≡ o′
   way-one (missing l v ks holder q) (missing _ _ _ _ r) = refl
   way-one (missing l v ks holder q) (stored _ _ _ _ lf p c r E w e) = none-not-some (sym q ∙ r)
   way-one (missing l v ks holder q) (conflict _ _ _ _ lf p c r E w n) = none-not-some (sym q ∙ r)
@@ -71,5 +73,7 @@ module _ (m : Memory) (K : List ℕ) where
   way-one (below l v ks holder lf p x o q E rest) (conflict _ _ _ _ lf′ p′ c r F w n) = cell-not-link (some-same (sym r ∙ q))
   way-one (below l v ks holder lf p x o q E rest) (below _ _ _ _ lf′ p′ y o′ r F rest′) =
       let layers : y ≡ x = link-same (some-same (sym r ∙ q)) in
-      let words : numberWord (m .nodes) lf′ p′ ≡ numberWord (m .nodes) lf p = ap₂ (numberWord (m .nodes)) (entered-leaf F E) (entered-place F E) in
-      way-one rest (subst (λ (n : ℕ). Way m K l x (down K ks) n o′) words (subst (λ (z : Lay l). Way m K l z (down K ks) (numberWord (m .nodes) lf′ p′) o′) layers rest′))
+      let words : numberWord (m .nodes) lf′ p′ ≡ numberWord (m .nodes) lf p =
+      ap₂ (numberWord (m .nodes)) (entered-leaf F E) (entered-place F E) in
+      way-one rest (subst (λ (n : ℕ). Way m K l x (pathDown K ks) n o′) words
+      (subst (λ (z : Layered l). Way m K l z (pathDown K ks) (numberWord (m .nodes) lf′ p′) o′) layers rest′))

@@ -1,5 +1,6 @@
 -- A cell taken for a key and its frame number: it is seen with both, and every other cell is as it was. Assumes nothing.
 use mathlib.Core.Path.{_≡_, refl, sym, ap, ap₂, _∙_, subst}
+use mathlib.Core.Bool.{cond}
 use mathlib.Core.Logic.{⊎-elim, inl, inr}
 use mathlib.Core.List.{List, [], _∷_, _++_, append-nil}
 use mathlib.Core.Option.{none, some}
@@ -7,21 +8,21 @@ use Prim.Native.Nat.{ℕ, zero, suc, _+_, _*_, _-_, _≤_, _<_}
 use native.Mathlib.Omega.{arith}
 use native.Mathlib.Decide.{ℕ-discrete}
 use lib.Dec.{T, eqb, leb, le→leb}
-use lib.ListN.{length, set, take, length-replicate}
+use lib.ListN.{length, set, length-replicate}
 use Rattle.bank.proofs.Tests.{and-both}
-use Rattle.order.specs.Bytes as order
 use Rattle.order.specs.Bytes.{Bytes}
-use Rattle.order.proofs.Bytes.{bytes-drop}
+use Rattle.order.proofs.Bytes.{bytes-drop, bytes-take, bytes-append}
 use Rattle.leaf.specs.Lists.{every}
 use Rattle.arena.specs.Parts.{part, putPart, zeros}
 use Rattle.arena.specs.Layout.{cellStart, keyStart, markAt, frameAt, keyAt, keyBytes, putCell, putKey}
 use Rattle.arena.proofs.Words.{part-kept, part-part, put-out, middle}
-use Rattle.arena.proofs.Cells.{cells-apart, keys-apart, key-length, cell-kept, mark-kept, cells-length, mark-stored, frame-stored, key-stored, bytes-stored, bytes-kept, bytes-length}
+use Rattle.arena.proofs.Cells.{cells-apart, keys-apart, key-length, cell-kept, mark-kept, cells-length, mark-stored, frame-stored}
+use Rattle.arena.proofs.Cells.{key-stored, bytes-stored, bytes-kept, bytes-length}
 use Rattle.forest.specs.Nodes.{allZero}
 use Rattle.forest.specs.Cells.{cellRight, cellFree}
-use Rattle.forest.specs.Trees.{choose}
 use Rattle.views.specs.Views.{tabled, cellView, cellSound}
 use Rattle.views.proofs.Nodes.{set-tabled, used-cell-view, cell-cases, free-mark, free-cell-sound, right-cell-sound, right-mark}
+use Rattle.places.proofs.FreedCells.{bytes-zeros}
 
 zeros-zero : (n : ℕ) → T (allZero (zeros n))
 unfolding every
@@ -63,7 +64,8 @@ module _ (cells bytes : List ℕ) (C : ℕ) (long : length cells ≡ C * 2) (wid
   -- bytes of the cell
   inside-part : (o n : ℕ) → o + n ≤ 256 → part bytesAfter (keyStart c + o) n ≡ part bs o n
   inside-part o n l =
-      sym (part-part bytesAfter (keyStart c) 256 o n (omega (arith, put-bytes-length)) l) ∙ ap (λ (x : List ℕ). part x o n) (bytes-stored bytes c bytes-fit bs many)
+      sym (part-part bytesAfter (keyStart c) 256 o n (omega (arith, put-bytes-length)) l)
+      ∙ ap (λ (x : List ℕ). part x o n) (bytes-stored bytes c bytes-fit bs many)
 
   rest-part : part bs (length key) (256 - length key) ≡ zeros (256 - length key)
   rest-part =
@@ -119,10 +121,12 @@ module _ (cells bytes : List ℕ) (C : ℕ) (long : length cells ≡ C * 2) (wid
       where
         go : Dec (j ≡ c) → T (cellSound cellsAfter bytesAfter j)
         go (yes e) = right-cell-sound _ _ j (subst (λ (x : ℕ). T (cellRight cellsAfter bytesAfter x)) (sym e) here-right)
-        go (no ne) = cell-cases cells bytes j (sound j i) (λ f. free-cell-sound _ _ j (still-free j ne i f)) (λ r. right-cell-sound _ _ j (still-right j ne i r))
+        go (no ne) = cell-cases cells bytes j (sound j i) (λ f. free-cell-sound _ _ j (still-free j ne i f))
+            (λ r. right-cell-sound _ _ j (still-right j ne i r))
 
     most-mark : (j : ℕ) → j < C → markAt cells j ≤ 257
-    most-mark j i = cell-cases cells bytes j (sound j i) (λ f. omega (arith, free-mark cells bytes j f)) (λ r. right-mark cells bytes j r .1)
+    most-mark j i = cell-cases cells bytes j (sound j i) (λ f. omega (arith, free-mark cells bytes j f))
+        (λ r. right-mark cells bytes j r .1)
 
     other-view : (j : ℕ) → j < C → (j ≡ c → ⊥) → cellView cellsAfter bytesAfter j ≡ cellView cells bytes j
     unfolding cellView
@@ -130,29 +134,18 @@ module _ (cells bytes : List ℕ) (C : ℕ) (long : length cells ≡ C * 2) (wid
         let mark = mark-same j ne in
         let its-key = key-same j ne i (most-mark j i) in
         let its-frame = frame-same j ne in
-        λ x. choose (eqb (mark x) 0) none (some (its-key x, its-frame x))
+        λ x. cond (eqb (mark x) 0) none (some (its-key x, its-frame x))
 
     pub put-view : tabled (cellView cellsAfter bytesAfter) 0 C ≡ set (tabled (cellView cells bytes) 0 C) c (some (key, frame))
     put-view =
         sym (set-tabled (cellView cells bytes) (cellView cellsAfter bytesAfter) C c (some (key, frame))
-        (used-cell-view cellsAfter bytesAfter c (λ z. omega (arith, mark-is)) ∙ ap₂ (λ (k : List ℕ) (f : ℕ). some (k, f)) key-is (frame-stored cells c cells-fit (length key) frame))
+        (used-cell-view cellsAfter bytesAfter c (λ z. omega (arith, mark-is))
+        ∙ ap₂ (λ (k : List ℕ) (f : ℕ). some (k, f)) key-is (frame-stored cells c cells-fit (length key) frame))
         (λ j i ne. other-view j i ne))
 
 -- bytes stay bytes
-bytes-append : {xs ys : List ℕ} → Bytes xs → Bytes ys → Bytes (xs ++ ys)
-bytes-append order.none b = b
-bytes-append (order.more h a) b = order.more h (bytes-append a b)
-
-bytes-take : (n : ℕ) {xs : List ℕ} → Bytes xs → Bytes (take n xs)
-bytes-take zero b = order.none
-bytes-take (suc n) order.none = order.none
-bytes-take (suc n) (order.more h b) = order.more h (bytes-take n b)
-
-bytes-zeros : (n : ℕ) → Bytes (zeros n)
-bytes-zeros zero = order.none
-bytes-zeros (suc n) = order.more {x = 0} (omega arith) (bytes-zeros n)
-
 pub put-bytes : (bytes : List ℕ) (c : ℕ) (key : List ℕ) → Bytes bytes → Bytes key → Bytes (putKey bytes c key)
 unfolding putPart
 put-bytes bytes c key b k =
-    bytes-append (bytes-append (bytes-take (keyStart c) b) (bytes-append k (bytes-zeros (256 - length key)))) (bytes-drop (keyStart c + length (keyBytes key)) b)
+    bytes-append (bytes-append (bytes-take (keyStart c) b) (bytes-append k (bytes-zeros (256 - length key))))
+    (bytes-drop (keyStart c + length (keyBytes key)) b)

@@ -11,8 +11,7 @@ use lib.Dec.{leb}
 use lib.ListN.{length, getD, set, drop}
 use borrow.Author.Tests.{eqb-true, leb-true}
 use Rattle.order.specs.Bytes.{Bytes, bytewise}
-use Rattle.order.specs.Map as order
-use Rattle.order.specs.Map.{insert}
+use Rattle.order.specs.Map.{insert, All, alter, lookup}
 use Rattle.arena.specs.Layout as layout
 use Rattle.arena.specs.Layout.{cellStart, markAt, keyAt, putCell, putKey}
 use Rattle.arena.specs.Free.{isFree, freeNodes, freeCells}
@@ -21,21 +20,24 @@ use Rattle.arena.proofs.Frees.{first-passing}
 use Rattle.arena.proofs.Measures.{and-true}
 use Rattle.forest.specs.IsTree.{Layers, IsTree, listing}
 use Rattle.model.specs.Calls.{nodesOf, cellsOf, place, stored, neededAt, needed, hasRoom, freshCell, nodesWith, with}
-use Rattle.trees.specs.Order.{cmpB, ikey-lt, bytes-order}
-use Rattle.trees.specs.SMap.{All, alter, lookup}
-use Rattle.trees.specs.Look.{lookup-new}
-use Rattle.trees.specs.Base.{Mem, hit-other}
-use Rattle.trees.specs.MemA.{frees, times}
-use Rattle.trees.specs.Cut.{cut15, cut-exists}
-use Rattle.trees.specs.TriePut.{key, Fits}
-use Rattle.trees.specs.Uses.{layer-same, layer-good-same}
-use Rattle.trees.specs.Cells.{Cells, cellAt, freeC, takeC, cell-same, cell-other}
-use Rattle.trees.specs.Lays.{Ptr, Lay, rootL, cntL}
-use Rattle.trees.specs.PutL.{putL, needL}
-use Rattle.trees.specs.NeedL.{needL-same}
-use Rattle.trees.specs.Index as trees
-use Rattle.trees.specs.Index.{ones-le, usesL, entriesOf, under-top, fits-top}
-use Rattle.trees.specs.Whole.{listing-sorted}
+use Rattle.trees.specs.Nodes.{NodeList}
+use Rattle.trees.specs.FreeNumbers.{freeNumbers, timesIn}
+use Rattle.trees.specs.Cut.{cutPlace}
+use Rattle.trees.specs.Entries.{cellKey, FitsLayers}
+use Rattle.trees.specs.Cells.{CellList, cellAt, freeCellNumbers}
+use Rattle.trees.specs.Layers.{Pointer, Layered, layerRoot, layerReaches}
+use Rattle.trees.specs.LayersPut.{layersPut, layersNeed}
+use Rattle.trees.specs.WholeTree.{bareEntries, layerUses, layerListing, IsWholeTree}
+use Rattle.trees.proofs.Nodes.{oneAt-other}
+use Rattle.trees.proofs.Cut.{cut-exists}
+use Rattle.trees.proofs.Paths.{raisedIkey-lt}
+use Rattle.trees.proofs.CellsUsed.{layer-listing-same, right-layer-same}
+use Rattle.trees.proofs.Cells.{cell-taken, cell-same, cell-other}
+use Rattle.trees.proofs.NeededThroughLayers.{layersNeed-same}
+use Rattle.trees.proofs.WholeTree.{onesBelow-le, below-no-links, fits-first-layer, whole-put}
+use Rattle.trees.proofs.WholeCalls.{whole-sorted}
+use Rattle.order.proofs.Bytes.{bytewise-order}
+use Rattle.order.proofs.Lookup.{lookup-new}
 use Rattle.views.specs.Views.{tabled, nodeView, nodesView, cellView, cellsView, layerView, Sound}
 use Rattle.views.proofs.Nodes.{nodesIn, cellsIn, cells-long, free-cells-view}
 use Rattle.views.proofs.LayerViews.{rightEdge}
@@ -43,7 +45,6 @@ use Rattle.views.proofs.Whole.{lengths, ViewIsTree, sound-of, to-trees, listing
 use Rattle.growth.proofs.Memory.{frees-view}
 use Rattle.growth.proofs.Puts.{Rooted, top-grown}
 use Rattle.growth.proofs.Lent.{nodes-of}
-use Rattle.places.proofs.Maps.{tree-bytes, lookup-same, alter-same}
 use Rattle.places.proofs.Meets.{Way}
 use Rattle.places.proofs.Seen.{seen-key, place-way}
 use Rattle.places.proofs.Found.{isSome, stored-lookup}
@@ -62,7 +63,7 @@ none-of (some x) e = let z : _≡_ {A = ℕ} 0 1 = cc in absurd (omega arith)
 -- ---- memory with other nodes, and a cell taken
 
 module _ (m : Memory) (sound : Sound m) (c : ℕ) (inside : c < cellsIn m) (K : List ℕ) (short : length K ≤ 256) (frame : ℕ)
-    (result : List ℕ) (b : ℕ × Mem Ptr) (R : Rooted (m .nodes) (nodesIn m) result b) where
+    (result : List ℕ) (b : ℕ × NodeList Pointer) (R : Rooted (m .nodes) (nodesIn m) result b) where
   abbrev after : Memory
   after = memory result (putCell (m .cells) c (length K) frame) (putKey (m .bytes) c K)
 
@@ -70,10 +71,12 @@ module _ (m : Memory) (sound : Sound m) (c : ℕ) (inside : c < cellsIn m) (K : 
   nodes-as-long = R .still .long ∙ sym (lengths m (sound .lent) .nodes-whole)
 
   cells-as-long : length (after .cells) ≡ length (m .cells)
-  cells-as-long = put-cells-length (m .cells) (m .bytes) (cellsIn m) (lengths m (sound .lent) .cells-whole) (lengths m (sound .lent) .bytes-whole) c inside K short frame
+  cells-as-long = put-cells-length (m .cells) (m .bytes) (cellsIn m) (lengths m (sound .lent) .cells-whole)
+      (lengths m (sound .lent) .bytes-whole) c inside K short frame
 
   bytes-as-long : length (after .bytes) ≡ length (m .bytes)
-  bytes-as-long = put-bytes-length (m .cells) (m .bytes) (cellsIn m) (lengths m (sound .lent) .cells-whole) (lengths m (sound .lent) .bytes-whole) c inside K short frame
+  bytes-as-long = put-bytes-length (m .cells) (m .bytes) (cellsIn m) (lengths m (sound .lent) .cells-whole)
+      (lengths m (sound .lent) .bytes-whole) c inside K short frame
 
   as-many-nodes : nodesIn after ≡ nodesIn m
   as-many-nodes = ap nodeCount nodes-as-long
@@ -87,33 +90,41 @@ module _ (m : Memory) (sound : Sound m) (c : ℕ) (inside : c < cellsIn m) (K : 
   after-cells : cellsView after ≡ set (cellsView m) c (some (K, frame))
   after-cells =
       ap (λ (n : ℕ). tabled (cellView (after .cells) (after .bytes)) 0 n) as-many-cells
-      ∙ put-view (m .cells) (m .bytes) (cellsIn m) (lengths m (sound .lent) .cells-whole) (lengths m (sound .lent) .bytes-whole) c inside K short frame (sound .cells-sound)
+      ∙ put-view (m .cells) (m .bytes) (cellsIn m) (lengths m (sound .lent) .cells-whole)
+      (lengths m (sound .lent) .bytes-whole) c inside K short frame (sound .cells-sound)
 
   after-sound : Sound after
   after-sound = record {
     lent = rw (nodes-as-long, cells-as-long, bytes-as-long) (sound .lent);
     kept-zero = R .second ∙ sound .kept-zero;
     nodes-sound = λ k h. R .still .sound k (rw (← as-many-nodes) h);
-    cells-sound = λ j h. put-sound (m .cells) (m .bytes) (cellsIn m) (lengths m (sound .lent) .cells-whole) (lengths m (sound .lent) .bytes-whole) c inside K short frame (sound .cells-sound) j (rw (← as-many-cells) h);
+    cells-sound = λ j h. put-sound (m .cells) (m .bytes) (cellsIn m) (lengths m (sound .lent) .cells-whole)
+        (lengths m (sound .lent) .bytes-whole) c inside K short frame (sound .cells-sound) j (rw (← as-many-cells) h);
   }
 
   -- the trees' memory, cells and root are those of the view after
-  after-tree : (w : Lay 31) → trees.IsTree 15 rightEdge 31 (nodesIn m) (cellsIn m) (b .1) (set (cellsView m) c (some (K, frame))) (b .0) w → ViewIsTree after w
+  after-tree : (w : Layered 31) → IsWholeTree 15 rightEdge 31 (nodesIn m) (cellsIn m) (b .1) (set (cellsView m) c (some (K, frame)))
+      (b .0) w → ViewIsTree after w
   after-tree w t =
-      subst (λ (n : ℕ). trees.IsTree 15 rightEdge 31 n (cellsIn after) (nodesView after) (cellsView after) (layout.rootOf result) w) (sym as-many-nodes)
-      (subst (λ (n : ℕ). trees.IsTree 15 rightEdge 31 (nodesIn m) n (nodesView after) (cellsView after) (layout.rootOf result) w) (sym as-many-cells)
-      (subst (λ (M : Mem Ptr). trees.IsTree 15 rightEdge 31 (nodesIn m) (cellsIn m) M (cellsView after) (layout.rootOf result) w) (sym after-nodes)
-      (subst (λ (cs : Cells). trees.IsTree 15 rightEdge 31 (nodesIn m) (cellsIn m) (b .1) cs (layout.rootOf result) w) (sym after-cells)
-      (subst (λ (r : ℕ). trees.IsTree 15 rightEdge 31 (nodesIn m) (cellsIn m) (b .1) (set (cellsView m) c (some (K, frame))) r w) (sym (R .root-is)) t))))
+      subst (λ (n : ℕ). IsWholeTree 15 rightEdge 31 n (cellsIn after) (nodesView after) (cellsView after) (layout.rootOf result) w)
+      (sym as-many-nodes)
+      (subst (λ (n : ℕ). IsWholeTree 15 rightEdge 31 (nodesIn m) n (nodesView after) (cellsView after) (layout.rootOf result) w)
+      (sym as-many-cells)
+      (subst (λ (M : NodeList Pointer). IsWholeTree 15 rightEdge 31 (nodesIn m) (cellsIn m) M (cellsView after) (layout.rootOf result) w)
+      (sym after-nodes)
+      (subst (λ (cs : CellList). IsWholeTree 15 rightEdge 31 (nodesIn m) (cellsIn m) (b .1) cs (layout.rootOf result) w) (sym after-cells)
+      (subst (λ (r : ℕ). IsWholeTree 15 rightEdge 31 (nodesIn m) (cellsIn m) (b .1) (set (cellsView m) c (some (K, frame))) r w)
+      (sym (R .root-is)) t))))
 
 -- ---- put
 
-module _ (m : Memory) (v : Layers) (t : IsTree m v) (bytes : Bytes (m .bytes)) (K : List ℕ) (b : Bytes K) (short : length K ≤ 256) (frame : ℕ)
+module _ (m : Memory) (v : Layers) (t : IsTree m v) (bytes : Bytes (m .bytes)) (K : List ℕ) (b : Bytes K) (short : length K ≤ 256)
+    (frame : ℕ)
     (absent : stored m K ≡ false) (room : hasRoom m K ≡ true) where
-  abbrev w : Lay 31
+  abbrev w : Layered 31
   w = layerView 31 v
 
-  abbrev M : Mem Ptr
+  abbrev M : NodeList Pointer
   M = nodesView m
 
   s : Sound m
@@ -122,8 +133,8 @@ module _ (m : Memory) (v : Layers) (t : IsTree m v) (bytes : Bytes (m .bytes)) (
   seen : ViewIsTree m w
   seen = to-trees m v t bytes
 
-  once : (j : ℕ) → cntL 31 w j + times (frees 0 M) j ≤ 1
-  once j = omega (arith, seen .nodes j, ones-le (nodesIn m) j)
+  once : (j : ℕ) → layerReaches 31 w j + timesIn (freeNumbers 0 M) j ≤ 1
+  once j = omega (arith, seen .nodes j, onesBelow-le (nodesIn m) j)
 
   -- ---- the cell
 
@@ -139,17 +150,17 @@ module _ (m : Memory) (v : Layers) (t : IsTree m v) (bytes : Bytes (m .bytes)) (
   lowest-cell : freeCells (m .cells) (cellsOf m) ≡ c ∷ others
   lowest-cell = head-of (freeCells (m .cells) (cellsOf m)) has-cell
 
-  free-cells : freeC 0 (cellsView m) ≡ c ∷ others
+  free-cells : freeCellNumbers 0 (cellsView m) ≡ c ∷ others
   free-cells = free-cells-view m ∙ lowest-cell
 
-  abbrev cells′ : Cells
+  abbrev cells′ : CellList
   cells′ = set (cellsView m) c (some (K, frame))
 
   abbrev at : ℕ → List ℕ × ℕ
   at = cellAt cells′
 
-  taken : (c < length (cellsView m)) × (freeC 0 cells′ ≡ others)
-  taken = takeC (cellsView m) c others (K, frame) free-cells
+  taken : (c < length (cellsView m)) × (freeCellNumbers 0 cells′ ≡ others)
+  taken = cell-taken (cellsView m) c others (K, frame) free-cells
 
   inside : c < cellsIn m
   inside = subst (λ (n : ℕ). c < n) (cells-long m) (taken .0)
@@ -157,35 +168,40 @@ module _ (m : Memory) (v : Layers) (t : IsTree m v) (bytes : Bytes (m .bytes)) (
   cell-is : at c ≡ (K, frame)
   cell-is = cell-same (cellsView m) c (K, frame) (taken .0)
 
-  key-is : key at c ≡ K
+  key-is : cellKey at c ≡ K
   key-is = ap (λ (x : List ℕ × ℕ). x .0) cell-is
 
-  agree : (j : ℕ) → 1 ≤ markAt (m .cells) j → key at j ≡ keyAt (m .cells) (m .bytes) j
+  agree : (j : ℕ) → 1 ≤ markAt (m .cells) j → cellKey at j ≡ keyAt (m .cells) (m .bytes) j
   agree j h =
-      let zero-mark : markAt (m .cells) c ≡ 0 = eqb-true (markAt (m .cells) c) 0 (first-passing (isFree cellStart (m .cells)) 0 (cellsOf m) lowest-cell .passes) in
-      ap (λ (x : List ℕ × ℕ). x .0) (cell-other (cellsView m) c j (some (K, frame)) (λ e. omega (arith, ap (markAt (m .cells)) e))) ∙ seen-key m s j
+      let zero-mark : markAt (m .cells) c ≡ 0 = eqb-true (markAt (m .cells) c) 0
+      (first-passing (isFree cellStart (m .cells)) 0 (cellsOf m) lowest-cell .passes) in
+      ap (λ (x : List ℕ × ℕ). x .0) (cell-other (cellsView m) c j (some (K, frame)) (λ e. omega (arith, ap (markAt (m .cells)) e)))
+      ∙ seen-key m s j
 
-  used-same : (j : ℕ) → 0 < usesL 31 w j → at j ≡ cellAt (cellsView m) j
+  used-same : (j : ℕ) → 0 < layerUses 31 w j → at j ≡ cellAt (cellsView m) j
   used-same j h =
-      cell-other (cellsView m) c j (some (K, frame)) (hit-other c j (omega (arith, seen .cells j, ap (λ (l : List ℕ). times l j) free-cells, ones-le (cellsIn m) j)))
+      cell-other (cellsView m) c j (some (K, frame)) (oneAt-other c j
+      (omega (arith, seen .cells j, ap (λ (l : List ℕ). timesIn l j) free-cells, onesBelow-le (cellsIn m) j)))
 
   -- ---- the key is new
 
-  absent-listed : lookup cmpB K (trees.listing 31 (cellsView m) w) ≡ none
+  absent-listed : lookup bytewise K (layerListing 31 (cellsView m) w) ≡ none
   absent-listed =
-      lookup-same K (trees.listing 31 (cellsView m) w) ∙ ap (order.lookup bytewise K) (sym (listing-view m v t))
-      ∙ none-of (order.lookup bytewise K (listing m v)) (sym (stored-lookup m v t bytes K b) ∙ absent)
+      ap (lookup bytewise K) (sym (listing-view m v t))
+      ∙ none-of (lookup bytewise K (listing m v)) (sym (stored-lookup m v t bytes K b) ∙ absent)
 
-  new : All (λ e. K ≢ e .0) (trees.listing 31 (cellsView m) w)
-  new = lookup-new bytes-order K (listing-sorted 15 9 cut15 rightEdge 31 (nodesIn m) (cellsIn m) M (cellsView m) (layout.rootOf (m .nodes)) w seen) absent-listed
+  new : All (λ e. K ≢ e .0) (layerListing 31 (cellsView m) w)
+  new = lookup-new bytewise-order K (whole-sorted 15 9 cutPlace rightEdge 31 (nodesIn m) (cellsIn m) M (cellsView m)
+      (layout.rootOf (m .nodes)) w seen) absent-listed
 
   known : Known m s at c 31 w []
   known = record {
-    fits = subst (λ (x : List ℕ × ℕ). Fits at 31 [] (x .0)) (sym cell-is) (fits-top at 31 K (tree-bytes b) short);
+    fits = subst (λ (x : List ℕ × ℕ). FitsLayers at 31 [] (x .0)) (sym cell-is) (fits-first-layer at 31 K b short);
     held = seen .holds;
-    good = (seen .good .0, layer-good-same (cellAt (cellsView m)) at 31 [] used-same (seen .good .1));
-    new = subst (λ (xs : List (List ℕ × ℕ)). All (λ e. key at c ≢ e .0) xs) (sym (layer-same (cellAt (cellsView m)) at 31 (entriesOf 31 w) used-same))
-        (subst (λ (x : List ℕ × ℕ). All (λ e. x .0 ≢ e .0) (trees.listing 31 (cellsView m) w)) (sym cell-is) new);
+    good = (seen .good .0, right-layer-same (cellAt (cellsView m)) at 31 [] used-same (seen .good .1));
+    new = subst (λ (xs : List (List ℕ × ℕ)). All (λ e. cellKey at c ≢ e .0) xs)
+        (sym (layer-listing-same (cellAt (cellsView m)) at 31 (bareEntries 31 w) used-same))
+        (subst (λ (x : List ℕ × ℕ). All (λ e. x .0 ≢ e .0) (layerListing 31 (cellsView m) w)) (sym cell-is) new);
     once = once;
     deep = refl;
   }
@@ -198,49 +214,55 @@ module _ (m : Memory) (v : Layers) (t : IsTree m v) (bytes : Bytes (m .bytes)) (
   -- of the key as the cell has it, and then of the key
   abbrev Along : List ℕ → Type 0
   Along J =
-      (neededAt m J (place m K) ≡ needL 15 at J 31 [] r M)
-      × (needL 15 at J 31 [] r M ≤ length (frees 0 M) → Put m s at c 31 w 0 (nodesWith m J c (place m K)) (putL 15 9 cut15 at J c 31 [] r M))
+      (neededAt m J (place m K) ≡ layersNeed 15 at J 31 [] r M)
+      × (layersNeed 15 at J 31 [] r M ≤ length (freeNumbers 0 M)
+      → Put m s at c 31 w 0 (nodesWith m J c (place m K)) (layersPut 15 9 cutPlace at J c 31 [] r M))
 
   along : Along K
   along =
       let W = subst (λ (J : List ℕ). Way m J 31 w [] 0 (place m K)) (sym key-is) (place-way m s w seen K b) in
       subst Along key-is
-      (subst (λ (r : ℕ). (neededAt m (key at c) (place m K) ≡ needL 15 at (key at c) 31 [] r M)
-      × (needL 15 at (key at c) 31 [] r M ≤ length (frees 0 M) → Put m s at c 31 w 0 (nodesWith m (key at c) c (place m K)) (putL 15 9 cut15 at (key at c) c 31 [] r M))) (seen .rooted)
+      (subst (λ (r : ℕ). (neededAt m (cellKey at c) (place m K) ≡ layersNeed 15 at (cellKey at c) 31 [] r M)
+      × (layersNeed 15 at (cellKey at c) 31 [] r M ≤ length (freeNumbers 0 M)
+      → Put m s at c 31 w 0 (nodesWith m (cellKey at c) c (place m K)) (layersPut 15 9 cutPlace at (cellKey at c) c 31 [] r M)))
+      (seen .rooted)
       (way-need m s at c agree W absent known, way-put m s at c agree W absent known))
 
-  needs : needL 15 (cellAt (cellsView m)) K 31 [] r M ≡ needed m K
+  needs : layersNeed 15 (cellAt (cellsView m)) K 31 [] r M ≡ needed m K
   needs =
-      subst (λ (r : ℕ). needL 15 (cellAt (cellsView m)) K 31 [] r M ≡ needL 15 at K 31 [] r M) (seen .rooted)
-      (sym (needL-same 15 9 cut15 rightEdge (cellAt (cellsView m)) at K (λ J y. ikey-lt y) 31 [] M w (under-top K (tree-bytes b)) (seen .holds) (seen .good)
+      subst (λ (r : ℕ). layersNeed 15 (cellAt (cellsView m)) K 31 [] r M ≡ layersNeed 15 at K 31 [] r M) (seen .rooted)
+      (sym (layersNeed-same 15 9 cutPlace rightEdge (cellAt (cellsView m)) at K (λ J y. raisedIkey-lt y) 31 [] M w (below-no-links K b)
+      (seen .holds) (seen .good)
       (λ j. omega (arith, once j)) used-same))
       ∙ sym (along .0)
 
-  enough : needed m K ≤ length (frees 0 M)
+  enough : needed m K ≤ length (freeNumbers 0 M)
   enough =
       subst (λ (fs : List ℕ). needed m K ≤ length fs) (sym (frees-view (m .nodes) (nodesIn m) (nodes-of m s .0)))
       (leb-true _ _ (and-true (leb 1 (length (freeCells (m .cells) (cellsOf m)))) _ room .1))
 
-  abbrev grown : ℕ × Mem Ptr
-  grown = putL 15 9 cut15 at K c 31 [] r M
+  abbrev grown : ℕ × NodeList Pointer
+  grown = layersPut 15 9 cutPlace at K c 31 [] r M
 
   abbrev result : List ℕ
   result = nodesWith m K c (place m K)
 
   rooted : Rooted (m .nodes) (nodesIn m) result grown
   rooted =
-      top-grown (cntL 31 w) (m .nodes) (nodesIn m) (rootL 31 w) result grown (along .1 (subst (λ (n : ℕ). n ≤ length (frees 0 M)) (along .0) enough)) (sym (seen .rooted))
+      top-grown (layerReaches 31 w) (m .nodes) (nodesIn m) (layerRoot 31 w) result grown
+      (along .1 (subst (λ (n : ℕ). n ≤ length (freeNumbers 0 M)) (along .0) enough)) (sym (seen .rooted))
 
   abbrev Putted : Type 0
   Putted =
-      (x : Lay 31) × trees.IsTree 15 rightEdge 31 (nodesIn m) (cellsIn m) (grown .1) cells′ (grown .0) x
-      × (trees.listing 31 cells′ x ≡ alter cmpB K (λ o. some frame) (trees.listing 31 (cellsView m) w))
-      × (frees 0 (grown .1) ≡ drop (needL 15 (cellAt (cellsView m)) K 31 [] r M) (frees 0 M))
+      (x : Layered 31) × IsWholeTree 15 rightEdge 31 (nodesIn m) (cellsIn m) (grown .1) cells′ (grown .0) x
+      × (layerListing 31 cells′ x ≡ alter bytewise K (λ o. some frame) (layerListing 31 (cellsView m) w))
+      × (freeNumbers 0 (grown .1) ≡ drop (layersNeed 15 (cellAt (cellsView m)) K 31 [] r M) (freeNumbers 0 M))
 
   putted : Putted
   putted =
-      trees.put-tree 15 9 cut15 rightEdge 31 (nodesIn m) (cellsIn m) (cut-exists 9) (omega arith) (omega arith) (omega arith) (λ J y. ikey-lt y)
-      M (cellsView m) r w seen K frame (tree-bytes b) short new c others free-cells (subst (λ (n : ℕ). n ≤ length (frees 0 M)) (sym needs) enough)
+      whole-put 15 9 cutPlace rightEdge 31 (nodesIn m) (cellsIn m) (cut-exists 9) (omega arith) (omega arith) (omega arith)
+      (λ J y. raisedIkey-lt y)
+      M (cellsView m) r w seen K frame b short new c others free-cells (subst (λ (n : ℕ). n ≤ length (freeNumbers 0 M)) (sym needs) enough)
 
   -- a tree that lists what memory does, with the key and its frame number
   abbrev pub More : Memory → Type 0
@@ -249,12 +271,13 @@ module _ (m : Memory) (v : Layers) (t : IsTree m v) (bytes : Bytes (m .bytes)) (
   pub put-tree : More (with m K frame)
   put-tree =
       let (x, X, listed, left) = putted in
-      let (u, U, e) = from-trees (with m K frame) (after-sound m s c inside K short frame result grown rooted) x (after-tree m s c inside K short frame result grown rooted x X) in (
+      let (u, U, e) = from-trees (with m K frame) (after-sound m s c inside K short frame result grown rooted) x
+      (after-tree m s c inside K short frame result grown rooted x X) in (
         u,
         U,
         listing-view (with m K frame) u U
-            ∙ ap₂ (λ (cs : Cells) (y : Lay 31). trees.listing 31 cs y) (after-cells m s c inside K short frame result grown rooted) e
-            ∙ listed ∙ alter-same K (λ o. some frame) (trees.listing 31 (cellsView m) w) ∙ ap (insert bytewise K frame) (sym (listing-view m v t)),
+            ∙ ap₂ (λ (cs : CellList) (y : Layered 31). layerListing 31 cs y) (after-cells m s c inside K short frame result grown rooted) e
+            ∙ listed ∙ ap (insert bytewise K frame) (sym (listing-view m v t)),
         put-bytes (m .bytes) c K bytes b,
       )
 
@@ -267,8 +290,9 @@ module _ (m : Memory) (v : Layers) (t : IsTree m v) (bytes : Bytes (m .bytes)) (
       × (freeCells ((with m K frame) .cells) (cellsOf m) ≡ drop 1 (freeCells (m .cells) (cellsOf m)))
   put-takes =
       let (x, X, listed, left) = putted in (
-        sym (frees-view result (nodesIn m) (rooted .still)) ∙ ap (frees 0) (rooted .view) ∙ left
+        sym (frees-view result (nodesIn m) (rooted .still)) ∙ ap (freeNumbers 0) (rooted .view) ∙ left
             ∙ ap₂ (λ (n : ℕ) (fs : List ℕ). drop n fs) needs (frees-view (m .nodes) (nodesIn m) (nodes-of m s .0)),
-        ap (freeCells ((with m K frame) .cells)) (sym (as-many-cells m s c inside K short frame result grown rooted)) ∙ sym (free-cells-view (with m K frame))
-            ∙ ap (freeC 0) (after-cells m s c inside K short frame result grown rooted) ∙ taken .1,
+        ap (freeCells ((with m K frame) .cells)) (sym (as-many-cells m s c inside K short frame result grown rooted))
+            ∙ sym (free-cells-view (with m K frame))
+            ∙ ap (freeCellNumbers 0) (after-cells m s c inside K short frame result grown rooted) ∙ taken .1,
       )

@@ -1,6 +1,6 @@
 -- A row of n numbers in which each is counted once, or else passes a test: it is free. Assumes nothing.
 use mathlib.Core.Path.{_≡_, refl, sym, ap, _∙_}
-use mathlib.Core.Bool.{Bool, true, false}
+use mathlib.Core.Bool.{Bool, true, false, cond}
 use mathlib.Core.Logic.{⊎-elim}
 use mathlib.Core.List.{List}
 use Prim.Native.Nat.{ℕ, zero, suc, _+_, _≤_, _<_}
@@ -9,15 +9,17 @@ use native.Mathlib.Decide.{ℕ-discrete}
 use borrow.Author.Tests.{lt-ltb, le-ltb}
 use Rattle.arena.specs.Free.{consIf, passing}
 use Rattle.arena.proofs.Words.{lt-or-ge}
-use Rattle.trees.specs.Base.{cond, hit, hit-same}
-use Rattle.trees.specs.MemA.{times}
-use Rattle.trees.specs.Index.{ones, ones-le}
+use Rattle.trees.specs.Nodes.{oneAt}
+use Rattle.trees.specs.FreeNumbers.{timesIn}
+use Rattle.trees.specs.WholeTree.{onesBelow}
+use Rattle.trees.proofs.Nodes.{oneAt-same}
+use Rattle.trees.proofs.WholeTree.{onesBelow-le}
 use Rattle.views.proofs.TreeViews.{hit-other}
 use Rattle.views.proofs.Counts.{some-or-none}
 
 -- ---- how often a number stands among those that pass a test
 
-times-step : (b : Bool) (i : ℕ) (ks : List ℕ) (j : ℕ) → times (consIf b i ks) j ≡ cond b (hit i j) 0 + times ks j
+times-step : (b : Bool) (i : ℕ) (ks : List ℕ) (j : ℕ) → timesIn (consIf b i ks) j ≡ cond b (oneAt i j) 0 + timesIn ks j
 times-step true i ks j = refl
 times-step false i ks j = omega arith
 
@@ -25,62 +27,62 @@ cond-none : (b : Bool) (x : ℕ) → x ≡ 0 → cond b x 0 ≡ 0
 cond-none true x e = e
 cond-none false x e = refl
 
-times-left : (test : ℕ → Bool) (i n j : ℕ) → j < i → times (passing test i n) j ≡ 0
+times-left : (test : ℕ → Bool) (i n j : ℕ) → j < i → timesIn (passing test i n) j ≡ 0
 unfolding passing
 times-left test i zero j h = refl
 times-left test i (suc n) j h =
     omega (
       arith,
       times-step (test i) i (passing test (suc i) n) j,
-      cond-none (test i) (hit i j) (hit-other i j (λ e. omega arith)),
+      cond-none (test i) (oneAt i j) (hit-other i j (λ e. omega arith)),
       times-left test (suc i) n j (omega arith),
     )
 
-times-right : (test : ℕ → Bool) (i n j : ℕ) → i + n ≤ j → times (passing test i n) j ≡ 0
+times-right : (test : ℕ → Bool) (i n j : ℕ) → i + n ≤ j → timesIn (passing test i n) j ≡ 0
 unfolding passing
 times-right test i zero j h = refl
 times-right test i (suc n) j h =
     omega (
       arith,
       times-step (test i) i (passing test (suc i) n) j,
-      cond-none (test i) (hit i j) (hit-other i j (λ e. omega arith)),
+      cond-none (test i) (oneAt i j) (hit-other i j (λ e. omega arith)),
       times-right test (suc i) n j (omega arith),
     )
 
-times-from : (test : ℕ → Bool) (i n j : ℕ) → i ≤ j → j < i + n → times (passing test i n) j ≡ cond (test j) 1 0
+times-from : (test : ℕ → Bool) (i n j : ℕ) → i ≤ j → j < i + n → timesIn (passing test i n) j ≡ cond (test j) 1 0
 unfolding passing
 times-from test i zero j h k = absurd (omega arith)
 times-from test i (suc n) j h k = go (ℕ-discrete i j) (times-from test (suc i) n j)
   where
-    go : Dec (i ≡ j) → (suc i ≤ j → j < suc i + n → times (passing test (suc i) n) j ≡ cond (test j) 1 0)
-        → times (consIf (test i) i (passing test (suc i) n)) j ≡ cond (test j) 1 0
+    go : Dec (i ≡ j) → (suc i ≤ j → j < suc i + n → timesIn (passing test (suc i) n) j ≡ cond (test j) 1 0)
+        → timesIn (consIf (test i) i (passing test (suc i) n)) j ≡ cond (test j) 1 0
     go (yes e) f =
-        let here : cond (test i) (hit i j) 0 ≡ cond (test j) 1 0 =
-        ap (λ (x : ℕ). cond (test i) x 0) (ap (hit i) (sym e) ∙ hit-same i) ∙ ap (λ (x : ℕ). cond (test x) 1 0) e in
+        let here : cond (test i) (oneAt i j) 0 ≡ cond (test j) 1 0 =
+        ap (λ (x : ℕ). cond (test i) x 0) (ap (oneAt i) (sym e) ∙ oneAt-same i) ∙ ap (λ (x : ℕ). cond (test x) 1 0) e in
         omega (arith, times-step (test i) i (passing test (suc i) n) j, here, times-left test (suc i) n j (omega arith))
     go (no ne) f =
         omega (
           arith,
           times-step (test i) i (passing test (suc i) n) j,
-          cond-none (test i) (hit i j) (hit-other i j ne),
+          cond-none (test i) (oneAt i j) (hit-other i j ne),
           f (above i j h ne) (omega arith),
         )
       where
         above : (i j : ℕ) → i ≤ j → (i ≡ j → ⊥) → suc i ≤ j
         above i j h ne = omega arith
 
-times-in : (test : ℕ → Bool) (n j : ℕ) → j < n → times (passing test 0 n) j ≡ cond (test j) 1 0
+times-in : (test : ℕ → Bool) (n j : ℕ) → j < n → timesIn (passing test 0 n) j ≡ cond (test j) 1 0
 times-in test n j h = times-from test 0 n j (omega arith) (omega arith)
 
-times-out : (test : ℕ → Bool) (n j : ℕ) → n ≤ j → times (passing test 0 n) j ≡ 0
+times-out : (test : ℕ → Bool) (n j : ℕ) → n ≤ j → timesIn (passing test 0 n) j ≡ 0
 times-out test n j h = times-right test 0 n j (omega arith)
 
 -- ---- each is counted once, or passes
 
-ones-in : (n j : ℕ) → j < n → ones n j ≡ 1
+ones-in : (n j : ℕ) → j < n → onesBelow n j ≡ 1
 ones-in n j h = rw (lt-ltb j n h)
 
-ones-out : (n j : ℕ) → n ≤ j → ones n j ≡ 0
+ones-out : (n j : ℕ) → n ≤ j → onesBelow n j ≡ 0
 ones-out n j h = rw (le-ltb j n h)
 
 abbrev oneWhere : Bool → ℕ
@@ -97,10 +99,10 @@ none-fails false e = refl
 -- number j, counted r times
 module _ (test : ℕ → Bool) (n r j : ℕ) where
   abbrev passes : ℕ
-  passes = times (passing test 0 n) j
+  passes = timesIn (passing test 0 n) j
 
   abbrev pub Balanced : Type 0
-  Balanced = r + passes ≡ ones n j
+  Balanced = r + passes ≡ onesBelow n j
 
   pub balanced : r ≤ 1 → (0 < r → (j < n) × (test j ≡ false)) → (j < n → r ≡ 0 → test j ≡ true) → Balanced
   balanced most counted other = ⊎-elim used unused (some-or-none r)
@@ -117,7 +119,7 @@ module _ (test : ℕ → Bool) (n r j : ℕ) where
 
   module _ (b : Balanced) where
     pub counted-once : r ≤ 1
-    counted-once = omega (arith, ones-le n j)
+    counted-once = omega (arith, onesBelow-le n j)
 
     pub counted-fails : 0 < r → (j < n) × (test j ≡ false)
     counted-fails h =

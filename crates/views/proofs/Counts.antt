@@ -8,16 +8,16 @@ use native.Mathlib.Decide.{ℕ-discrete}
 use lib.Dec.{T}
 use Rattle.bank.proofs.Tests.{and-left}
 use Rattle.order.specs.Map.{All, a[], _a∷_}
+use Rattle.order.specs.Lists.{total}
 use Rattle.order.proofs.Map.{all-map}
 use Rattle.forest.specs.Nodes.{leafRight, internodeRight}
 use Rattle.forest.specs.Cells.{cellRight, filed}
-use Rattle.forest.specs.Trees.{Key, Tree, nodeNo, cellNo, once, total, nodesOf, Holds}
+use Rattle.forest.specs.Trees.{Key, Tree, nodeNo, cellNo, once, nodesOf, Holds}
 use Rattle.forest.specs.Layers.{Value, Layer, reachedBy, reached, HeldBy, Held, FiledBy, Filed}
 use Rattle.forest.proofs.Decides.{once-other}
-use Rattle.trees.specs.Base as base
-use Rattle.trees.specs.Uses.{uses}
-use Rattle.trees.specs.Lays.{cntV, cntL, bare, bareE}
-use Rattle.trees.specs.Index.{usesL}
+use Rattle.trees.specs.Entries.{cellUses}
+use Rattle.trees.specs.Layers.{bareValue, bareEntry, valueReaches, layerReaches}
+use Rattle.trees.specs.WholeTree.{layerUses}
 use Rattle.views.specs.Views.{valueView, layerView}
 use Rattle.views.proofs.Lists.{map-map, total-view}
 use Rattle.views.proofs.TreeViews.{cell-once, cell-no-node, count-view, no-cells}
@@ -25,33 +25,33 @@ use Rattle.views.proofs.LayerViews.{valueEntry}
 
 -- ---- nodes and cells, as often as the views reach them
 
-nodes-by : (l : ℕ) (v : Value l) (j : ℕ) → cntV l (valueView l v) j ≡ reachedBy l v (nodeNo j)
+nodes-by : (l : ℕ) (v : Value l) (j : ℕ) → valueReaches l (valueView l v) j ≡ reachedBy l v (nodeNo j)
 nodes-by zero c j = sym (cell-no-node c j)
 nodes-by (suc l) (inl c) j = sym (cell-no-node c j)
 nodes-by (suc l) (inr v) j =
     ap₂ _+_ (count-view (v .0 .0) (v .0 .1) j)
-    (total-view (valueEntry l) (λ e. reachedBy l (e .1) (nodeNo j)) (λ e. cntV l (e .1) j) (λ e. nodes-by l (e .1) j) (v .1))
+    (total-view (valueEntry l) (λ e. reachedBy l (e .1) (nodeNo j)) (λ e. valueReaches l (e .1) j) (λ e. nodes-by l (e .1) j) (v .1))
 
-pub nodes-reached : (l : ℕ) (v : Layer l) (j : ℕ) → cntL l (layerView l v) j ≡ reached l v (nodeNo j)
+pub nodes-reached : (l : ℕ) (v : Layer l) (j : ℕ) → layerReaches l (layerView l v) j ≡ reached l v (nodeNo j)
 nodes-reached l v j =
     ap₂ _+_ (count-view (v .0 .0) (v .0 .1) j)
-    (total-view (valueEntry l) (λ e. reachedBy l (e .1) (nodeNo j)) (λ e. cntV l (e .1) j) (λ e. nodes-by l (e .1) j) (v .1))
+    (total-view (valueEntry l) (λ e. reachedBy l (e .1) (nodeNo j)) (λ e. valueReaches l (e .1) j) (λ e. nodes-by l (e .1) j) (v .1))
 
-cells-of : (l : ℕ) → ((v : Value l) (j : ℕ) → uses l (bare l (valueView l v)) j ≡ reachedBy l v (cellNo j)) → (v : Layer l) (j : ℕ)
-    → base.total (λ e. uses l (e .1) j) (map (bareE l) (map (valueEntry l) (v .1))) ≡ reached l v (cellNo j)
+cells-of : (l : ℕ) → ((v : Value l) (j : ℕ) → cellUses l (bareValue l (valueView l v)) j ≡ reachedBy l v (cellNo j)) → (v : Layer l) (j : ℕ)
+    → total (λ e. cellUses l (e .1) j) (map (bareEntry l) (map (valueEntry l) (v .1))) ≡ reached l v (cellNo j)
 cells-of l f v j =
     let own = no-cells (v .0 .0) (v .0 .1) j in
     let below =
-    total-view (λ e. bareE l (valueEntry l e)) (λ e. reachedBy l (e .1) (cellNo j)) (λ e. uses l (e .1) j) (λ e. f (e .1) j)
+    total-view (λ e. bareEntry l (valueEntry l e)) (λ e. reachedBy l (e .1) (cellNo j)) (λ e. cellUses l (e .1) j) (λ e. f (e .1) j)
     (v .1) in
-    ap (base.total (λ e. uses l (e .1) j)) (map-map (valueEntry l) (bareE l) (v .1)) ∙ omega (arith, own, below)
+    ap (total (λ e. cellUses l (e .1) j)) (map-map (valueEntry l) (bareEntry l) (v .1)) ∙ omega (arith, own, below)
 
-cells-by : (l : ℕ) (v : Value l) (j : ℕ) → uses l (bare l (valueView l v)) j ≡ reachedBy l v (cellNo j)
+cells-by : (l : ℕ) (v : Value l) (j : ℕ) → cellUses l (bareValue l (valueView l v)) j ≡ reachedBy l v (cellNo j)
 cells-by zero c j = cell-once c j
 cells-by (suc l) (inl c) j = cell-once c j
 cells-by (suc l) (inr v) j = cells-of l (cells-by l) v j
 
-pub cells-reached : (l : ℕ) (v : Layer l) (j : ℕ) → usesL l (layerView l v) j ≡ reached l v (cellNo j)
+pub cells-reached : (l : ℕ) (v : Layer l) (j : ℕ) → layerUses l (layerView l v) j ≡ reached l v (cellNo j)
 cells-reached l v j = cells-of l (cells-by l) v j
 
 -- ---- what is reached is in use

@@ -1,32 +1,31 @@
 -- Entries seen as keys with a cell or a link: in a right leaf they rise, are at most fifteen, and each class is at most 9.
 -- Assumes nothing.
-use mathlib.Core.Path.{_≡_, refl, sym, ap, _∙_}
-use mathlib.Core.Bool.{Bool, true, false, _&&_}
+use mathlib.Core.Path.{_≡_, refl, ap}
+use mathlib.Core.Bool.{Bool, true, false, cond, _&&_}
 use mathlib.Core.List.{List, [], _∷_, map}
-use Prim.Native.Nat.{ℕ, suc, _%_, _/_, min, _≤_, compare, compare·suc-suc, Ordering, Ordering·lt, Ordering·eq, Ordering·gt}
+use Prim.Native.Nat.{ℕ, suc, _%_, _/_, min, _≤_, compare·suc-suc, Ordering·lt}
 use native.Mathlib.Omega.{arith}
 use lib.Dec.{T, eqb, leb→le}
 use lib.ListN.{length, take, length-map, length-take}
 use borrow.Author.Tests.{eqb-true, eqb-false}
 use Rattle.bank.proofs.Tests.{and-left, and-right, is-true}
-use Rattle.order.specs.Bytes as bytes
-use Rattle.order.specs.Map.{All, a[], _a∷_}
+use Rattle.order.specs.Map.{All, a[], _a∷_, Sorted, _s∷_, s[]}
 use Rattle.nibbles.specs.Nibbles.{nibbles}
 use Rattle.nibbles.specs.Words.{validWord}
 use Rattle.nibbles.proofs.Nibbles.{length-nibbles}
-use Rattle.leaf.specs.declared.Entry.{Entry}
+use Rattle.leaf_entries.specs.declared.Entry.{Entry}
 use Rattle.leaf.specs.Lists.{every}
 use Rattle.leaf.specs.Leaf.{rank, less, rising}
 use Rattle.leaf.proofs.Orders.{is-less}
 use Rattle.arena.specs.Layout.{wordAt, kindAt}
 use Rattle.forest.specs.Nodes.{entryAt, entriesAt, restAt, ofClass, isZero, leafRight}
-use Rattle.forest.specs.Trees.{Key, Ref, cell, link, choose, seenAs}
-use Rattle.trees.specs.Order.{then}
-use Rattle.trees.specs.SMap as trees
-use Rattle.trees.specs.Base.{cmpK, key-order}
-use Rattle.trees.specs.Lays.{Ptr}
+use Rattle.forest.specs.Trees.{Key, Ref, cell, link, seenAs}
+use Rattle.trees.specs.Nodes.{layerOrder}
+use Rattle.trees.specs.Layers.{Pointer}
+use Rattle.trees.proofs.Nodes.{layer-order}
 use Rattle.views.specs.Views.{keyView, refView, entryView}
 use Rattle.views.proofs.Lists.{map-exact}
+use Rattle.order.proofs.Map.{all-map}
 
 -- ---- a view tells entries apart
 
@@ -45,8 +44,8 @@ ref-exact (link a) (link b) e = ap link (cc)
 
 pub entry-exact : (a b : Key × Ref) → entryView a ≡ entryView b → a ≡ b
 entry-exact a b e =
-    let p : a .0 ≡ b .0 = key-exact (a .0) (b .0) (ap (λ (x : (ℕ × ℕ) × Ptr). x .0) e) in
-    let q : a .1 ≡ b .1 = ref-exact (a .1) (b .1) (ap (λ (x : (ℕ × ℕ) × Ptr). x .1) e) in
+    let p : a .0 ≡ b .0 = key-exact (a .0) (b .0) (ap (λ (x : (ℕ × ℕ) × Pointer). x .0) e) in
+    let q : a .1 ≡ b .1 = ref-exact (a .1) (b .1) (ap (λ (x : (ℕ × ℕ) × Pointer). x .1) e) in
     λ i. (p i, q i)
 
 pub entries-exact : (es fs : List (Key × Ref)) → map entryView es ≡ map entryView fs → es ≡ fs
@@ -58,7 +57,7 @@ seen-ikey : (e : Entry) → seenAs e .0 .0 ≡ e .ikey
 unfolding seenAs
 seen-ikey e = go (eqb (e .class) 10)
   where
-    go : (b : Bool) → (choose {A = Key × Ref} b ((e .ikey, 9), link (e .at)) ((e .ikey, e .class), cell (e .at))) .0 .0 ≡ e .ikey
+    go : (b : Bool) → (cond {A = Key × Ref} b ((e .ikey, 9), link (e .at)) ((e .ikey, e .class), cell (e .at))) .0 .0 ≡ e .ikey
     go true = refl
     go false = refl
 
@@ -70,7 +69,7 @@ seen-class e t = go (eqb (e .class) 10) refl
     few = leb→le (e .class) 10 t
 
     go : (b : Bool) → eqb (e .class) 10 ≡ b
-        → (choose {A = Key × Ref} b ((e .ikey, 9), link (e .at)) ((e .ikey, e .class), cell (e .at))) .0 .1 ≡ min 9 (e .class)
+        → (cond {A = Key × Ref} b ((e .ikey, 9), link (e .at)) ((e .ikey, e .class), cell (e .at))) .0 .1 ≡ min 9 (e .class)
     go true q = let ten : e .class ≡ 10 = eqb-true (e .class) 10 q in omega arith
     go false q =
         let nine : e .class ≤ 9 = most (e .class) few (eqb-false (e .class) 10 q) in
@@ -87,7 +86,7 @@ seen-link : (e : Entry) → LinkNine (seenAs e)
 unfolding seenAs
 seen-link e = go (eqb (e .class) 10)
   where
-    go : (b : Bool) → LinkNine (choose {A = Key × Ref} b ((e .ikey, 9), link (e .at)) ((e .ikey, e .class), cell (e .at)))
+    go : (b : Bool) → LinkNine (cond {A = Key × Ref} b ((e .ikey, 9), link (e .at)) ((e .ikey, e .class), cell (e .at)))
     go true n q = refl
     go false n q = let z : _≡_ {A = ℕ} 0 1 = cc in absurd (omega arith)
 
@@ -97,46 +96,41 @@ seen-links (e ∷ es) = seen-link e a∷ seen-links es
 
 -- ---- order
 
-then-view : (a b : Ordering) → bytes.then a b ≡ then a b
-then-view Ordering·lt b = refl
-then-view Ordering·eq b = refl
-then-view Ordering·gt b = refl
-
 abbrev seenKey : Entry → ℕ × ℕ
 seenKey e = entryView (seenAs e) .0
 
-less-view : (e d : Entry) → T (ofClass e) → T (ofClass d) → T (less e d) → cmpK (seenKey e) (seenKey d) ≡ Ordering·lt
-unfolding cmpK
+less-view : (e d : Entry) → T (ofClass e) → T (ofClass d) → T (less e d) → layerOrder (seenKey e) (seenKey d) ≡ Ordering·lt
+unfolding layerOrder
 less-view e d s t l =
     rw (seen-ikey e, seen-ikey d, seen-class e s, seen-class d t, compare·suc-suc)
-    (sym (then-view (compare (e .ikey) (d .ikey)) (compare (rank e) (rank d))) ∙ is-less (is-true (less e d) l))
+    (is-less (is-true (less e d) l))
 
-abbrev seenEntry : Entry → (ℕ × ℕ) × Ptr
+abbrev seenEntry : Entry → (ℕ × ℕ) × Pointer
 seenEntry e = entryView (seenAs e)
 
-first-less : (e d : Entry) (es : List Entry) → cmpK (seenKey e) (seenKey d) ≡ Ordering·lt
-    → trees.Sorted cmpK (map seenEntry (d ∷ es)) → trees.All (λ x. cmpK (seenKey e) (x .0) ≡ Ordering·lt) (map seenEntry (d ∷ es))
-first-less e d es l (trees._s∷_ h s) = trees._a∷_ l (trees.all-map (λ x. key-order .trans (seenKey e) (seenKey d) (x .0) l) h)
+first-less : (e d : Entry) (es : List Entry) → layerOrder (seenKey e) (seenKey d) ≡ Ordering·lt
+    → Sorted layerOrder (map seenEntry (d ∷ es)) → All (λ x. layerOrder (seenKey e) (x .0) ≡ Ordering·lt) (map seenEntry (d ∷ es))
+first-less e d es l (h s∷ s) = l a∷ all-map (λ x. layer-order .trans (seenKey e) (seenKey d) (x .0) l) h
 
-pub rising-sorted : (es : List Entry) → T (every ofClass es) → T (rising es) → trees.Sorted cmpK (map seenEntry es)
+pub rising-sorted : (es : List Entry) → T (every ofClass es) → T (rising es) → Sorted layerOrder (map seenEntry es)
 unfolding every rising
-rising-sorted [] c r = trees.s[]
-rising-sorted (e ∷ []) c r = trees._s∷_ trees.a[] trees.s[]
+rising-sorted [] c r = s[]
+rising-sorted (e ∷ []) c r = a[] s∷ s[]
 rising-sorted (e ∷ d ∷ es) c r =
     let cs = and-right (ofClass e) _ c in
-    let later : trees.Sorted cmpK (map seenEntry (d ∷ es)) = rising-sorted (d ∷ es) cs (and-right (less e d) _ r) in
-    let l : cmpK (seenKey e) (seenKey d) ≡ Ordering·lt =
+    let later : Sorted layerOrder (map seenEntry (d ∷ es)) = rising-sorted (d ∷ es) cs (and-right (less e d) _ r) in
+    let l : layerOrder (seenKey e) (seenKey d) ≡ Ordering·lt =
     less-view e d (and-left (ofClass e) _ c) (and-left (ofClass d) _ cs) (and-left (less e d) _ r) in
-    trees._s∷_ (first-less e d es l later) later
+    (first-less e d es l later) s∷ later
 
 -- a class of 0 to 9
-pub classes-nine : (es : List Entry) → T (every ofClass es) → trees.All (λ x. x .0 .1 ≤ 9) (map seenEntry es)
+pub classes-nine : (es : List Entry) → T (every ofClass es) → All (λ x. x .0 .1 ≤ 9) (map seenEntry es)
 unfolding every
-classes-nine [] c = trees.a[]
+classes-nine [] c = a[]
 classes-nine (e ∷ es) c =
     let q : seenAs e .0 .1 ≡ min 9 (e .class) = seen-class e (and-left (ofClass e) _ c) in
     let few : seenAs e .0 .1 ≤ 9 = omega arith in
-    trees._a∷_ few (classes-nine es (and-right (ofClass e) _ c))
+    few a∷ classes-nine es (and-right (ofClass e) _ c)
 
 -- ---- a right leaf
 

@@ -8,12 +8,13 @@ use native.Mathlib.Decide.{ℕ-discrete}
 use lib.Dec.{T}
 use lib.ListN.{length, length-append, length-map, length-take}
 use Rattle.order.specs.Map.{All, a[], _a∷_}
+use Rattle.order.specs.Lists.{total, flattened}
 use Rattle.order.proofs.Map.{all-map}
 use Rattle.arena.specs.Parts.{part}
 use Rattle.arena.specs.Layout.{keyAt, keyStart, markAt}
 use Rattle.arena.specs.Memory.{Memory, cellCount}
 use Rattle.forest.specs.Cells.{filed}
-use Rattle.forest.specs.Trees.{Key, cellNo, once, joined, total, nodesOf}
+use Rattle.forest.specs.Trees.{Key, cellNo, once, nodesOf}
 use Rattle.forest.specs.Layers.{Value, Layer, reachedBy, reached, FiledBy, Filed, listedBy, listed}
 use Rattle.forest.specs.IsTree.{Layers, IsTree, listing}
 use Rattle.forest.proofs.Decides.{once-same}
@@ -62,13 +63,13 @@ module _ (cells bytes : List ℕ) (C : ℕ) (whole : length cells ≡ C * 2) whe
 
   entries-few : (l : ℕ) → ValueFew l → (above : List ℕ) {es : List (Key × Value l)}
       → All (λ e. FiledBy cells bytes l above (e .0) (e .1)) es
-      → length (joined (λ e. listedBy cells bytes l (e .1)) es)
+      → length (flattened (λ e. listedBy cells bytes l (e .1)) es)
       ≤ sumBelow C (λ j. total (λ e. reachedBy l (e .1) (cellNo j)) es)
   entries-few l f above a[] = omega arith
   entries-few l f above (_a∷_ {x = e} {xs = es} t ts) =
       omega (
         arith,
-        length-append (listedBy cells bytes l (e .1)) (joined (λ e. listedBy cells bytes l (e .1)) es),
+        length-append (listedBy cells bytes l (e .1)) (flattened (λ e. listedBy cells bytes l (e .1)) es),
         f above (e .0) (e .1) t,
         entries-few l f above ts,
         sum-plus C (λ j. reachedBy l (e .1) (cellNo j)) (λ j. total (λ e. reachedBy l (e .1) (cellNo j)) es),

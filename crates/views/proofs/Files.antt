@@ -10,26 +10,24 @@ use lib.Dec.{T}
 use lib.ListN.{length, getD, drop, length-take, length-append}
 use Rattle.bank.proofs.Tests.{and-left, and-right, and-both}
 use Rattle.order.specs.Bytes.{Bytes}
-use Rattle.order.specs.Map.{All, a[], _a∷_}
+use Rattle.order.specs.Map.{All, a[], _a∷_, Sorted, s[], _s∷_}
+use Rattle.order.specs.Lists.{total, flattened}
 use Rattle.leaf.proofs.Lists.{map-append}
 use Rattle.arena.specs.Parts.{part}
 use Rattle.arena.specs.Layout.{keyStart, markAt, keyAt, frameAt}
 use Rattle.arena.specs.Memory.{Memory}
 use Rattle.forest.specs.Cells.{cellRight, filed}
-use Rattle.forest.specs.Trees.{Key, joined, entriesOf, cellNo, total}
-use Rattle.forest.specs.Layers.{Value, Layer, rootOf, refOf, reachedBy, reached, HeldBy, Held, InEdgesBy, InEdges}
-use Rattle.forest.specs.Layers.{FiledBy, Filed, listedBy, listed}
+use Rattle.forest.specs.Trees.{Key, entriesOf, cellNo}
+use Rattle.forest.specs.Layers.{Value, Layer, rootOf, refOf, reachedBy, reached, HeldBy, Held, InEdgesBy, InEdges, FiledBy, Filed, listedBy}
+use Rattle.forest.specs.Layers.{listed}
 use Rattle.forest.proofs.Decides.{once-same}
 use Rattle.forest.proofs.Inside.{filed-inside}
-use Rattle.trees.specs.SMap as trees
-use Rattle.trees.specs.Base as base
-use Rattle.trees.specs.Base.{cmpK, flat}
-use Rattle.trees.specs.Find.{list-sorted}
-use Rattle.trees.specs.Trie.{rest, layerKey}
-use Rattle.trees.specs.TriePut as put
-use Rattle.trees.specs.TriePut.{Fits, GoodV, listV, listE}
+use Rattle.trees.specs.Nodes.{IkeyClass, layerOrder}
+use Rattle.trees.specs.Paths.{restBelow, layerKey}
+use Rattle.trees.specs.Entries.{EntryValue, valueListing, entryListing, FitsLayers, RightValue}
 use Rattle.trees.specs.Cells.{cellAt}
-use Rattle.trees.specs.Lays.{Ptr, Val, bare, bareE, ptr, ent}
+use Rattle.trees.specs.Layers.{Pointer, LayeredValue, bareValue, bareEntry, pointerOf, pointerEntry}
+use Rattle.trees.proofs.FindInTree.{tree-sorted}
 use Rattle.views.specs.Views.{keyView, entryView, cellsView, treeView, valueView}
 use Rattle.views.proofs.Entries.{LinkNine}
 use Rattle.views.proofs.Keys.{bytes-part, keyed-view, view-keyed, rest-length}
@@ -39,28 +37,28 @@ use Rattle.views.proofs.LayerViews.{rightEdge, valueEntry, pointers-vie
 
 -- ---- lists of the same keys are sorted alike
 
-abbrev Above : {A : Type 0} → base.Key → List (base.Key × A) → Type 0
-Above k es = trees.All (λ d. cmpK k (d .0) ≡ Ordering·lt) es
+abbrev Above : {A : Type 0} → IkeyClass → List (IkeyClass × A) → Type 0
+Above k es = All (λ d. layerOrder k (d .0) ≡ Ordering·lt) es
 
 module _ {A B : Type 0} (f : A → B) where
-  abbrev beside : base.Key × A → base.Key × B
+  abbrev beside : IkeyClass × A → IkeyClass × B
   beside e = (e .0, f (e .1))
 
-  all-beside : (k : base.Key) (es : List (base.Key × A)) → Above k (map beside es) → Above k es
-  all-beside k [] ps = trees.a[]
-  all-beside k (e ∷ es) (trees._a∷_ p ps) = trees._a∷_ p (all-beside k es ps)
+  all-beside : (k : IkeyClass) (es : List (IkeyClass × A)) → Above k (map beside es) → Above k es
+  all-beside k [] ps = a[]
+  all-beside k (e ∷ es) (p a∷ ps) = p a∷ (all-beside k es ps)
 
-  beside-all : (k : base.Key) {es : List (base.Key × A)} → Above k es → Above k (map beside es)
-  beside-all k trees.a[] = trees.a[]
-  beside-all k (trees._a∷_ p ps) = trees._a∷_ p (beside-all k ps)
+  beside-all : (k : IkeyClass) {es : List (IkeyClass × A)} → Above k es → Above k (map beside es)
+  beside-all k a[] = a[]
+  beside-all k (p a∷ ps) = p a∷ (beside-all k ps)
 
-  sorted-beside : (es : List (base.Key × A)) → trees.Sorted cmpK (map beside es) → trees.Sorted cmpK es
-  sorted-beside [] s = trees.s[]
-  sorted-beside (e ∷ es) (trees._s∷_ h s) = trees._s∷_ (all-beside (e .0) es h) (sorted-beside es s)
+  sorted-beside : (es : List (IkeyClass × A)) → Sorted layerOrder (map beside es) → Sorted layerOrder es
+  sorted-beside [] s = s[]
+  sorted-beside (e ∷ es) (h s∷ s) = (all-beside (e .0) es h) s∷ (sorted-beside es s)
 
-  beside-sorted : {es : List (base.Key × A)} → trees.Sorted cmpK es → trees.Sorted cmpK (map beside es)
-  beside-sorted trees.s[] = trees.s[]
-  beside-sorted (trees._s∷_ {e = e} h s) = trees._s∷_ (beside-all (e .0) h) (beside-sorted s)
+  beside-sorted : {es : List (IkeyClass × A)} → Sorted layerOrder es → Sorted layerOrder (map beside es)
+  beside-sorted s[] = s[]
+  beside-sorted (_s∷_ {e = e} h s) = (beside-all (e .0) h) s∷ (beside-sorted s)
 
 all-unmapped : {A B : Type 0} {P : B → Type 0} (f : A → B) (xs : List A) → All P (map f xs) → All (λ x. P (f x)) xs
 all-unmapped f [] ps = a[]
@@ -102,61 +100,61 @@ module _ (m : Memory) (cells-whole : length (m .cells) ≡ cellsIn m * 2) where
         )
 
     good-cell : (l : ℕ) → length above + l ≡ 31 → Bytes (m .bytes) → FiledCell
-        → Fits seen l (map suc above) (seen c .0) × (layerKey (map suc above) (seen c .0) ≡ keyView k)
+        → FitsLayers seen l (map suc above) (seen c .0) × (layerKey (map suc above) (seen c .0) ≡ keyView k)
     unfolding filed
     good-cell l depth b t =
         let key = keyAt (m .cells) (m .bytes) c in
         let short = key-short (and-left (cellRight (m .cells) (m .bytes) c) _ t) in
         let (u, q) = keyed-view above key (k .0) (k .1) (bytes-part (m .bytes) (keyStart c) (markAt (m .cells) c - 1) b)
         (and-right (cellRight (m .cells) (m .bytes) c) _ t) in
-        let fits : length (rest (map suc above) key) ≤ 8 * suc l = omega (arith, rest-length above key) in
-        subst (λ (x : List ℕ × ℕ). Fits seen l (map suc above) (x .0) × (layerKey (map suc above) (x .0) ≡ keyView k))
+        let fits : length (restBelow (map suc above) key) ≤ 8 * suc l = omega (arith, rest-length above key) in
+        subst (λ (x : List ℕ × ℕ). FitsLayers seen l (map suc above) (x .0) × (layerKey (map suc above) (x .0) ≡ keyView k))
         (sym (filed-seen t)) ((u, fits), q)
 
     cell-filed : (l : ℕ) → c < cellsIn m → T (cellRight (m .cells) (m .bytes) c)
-        → Fits seen l (map suc above) (seen c .0) × (layerKey (map suc above) (seen c .0) ≡ keyView k) → FiledCell
+        → FitsLayers seen l (map suc above) (seen c .0) × (layerKey (map suc above) (seen c .0) ≡ keyView k) → FiledCell
     unfolding filed
     cell-filed l h r g =
-        let (f, q) = subst (λ (x : List ℕ × ℕ). Fits seen l (map suc above) (x .0) × (layerKey (map suc above) (x .0) ≡ keyView k))
+        let (f, q) = subst (λ (x : List ℕ × ℕ). FitsLayers seen l (map suc above) (x .0) × (layerKey (map suc above) (x .0) ≡ keyView k))
         (right-seen c h r) g in
         and-both (cellRight (m .cells) (m .bytes) c) _ r (view-keyed above (keyAt (m .cells) (m .bytes) c) (k .0) (k .1) (f .0) q)
 
   -- ---- layers: from words to the view
 
-  abbrev Good : (l : ℕ) → List ℕ → base.Key × put.Val l → Type 0
-  Good l ks e = GoodV seen l ks (e .0) (e .1)
+  abbrev Good : (l : ℕ) → List ℕ → IkeyClass × EntryValue l → Type 0
+  Good l ks e = RightValue seen l ks (e .0) (e .1)
 
-  abbrev baredAll : (l : ℕ) → List (Key × Value l) → List (base.Key × put.Val l)
-  baredAll l es = map (bareE l) (map (valueEntry l) es)
+  abbrev baredAll : (l : ℕ) → List (Key × Value l) → List (IkeyClass × EntryValue l)
+  baredAll l es = map (bareEntry l) (map (valueEntry l) es)
 
   module _ (nodes-whole : length (m .nodes) ≡ 2 + nodesIn m * 47) (bytes : Bytes (m .bytes)) where
     abbrev ValueGood : ℕ → Type 0
     ValueGood l =
         (above : List ℕ) (k : Key) (v : Value l) → length above + l ≡ 31 → LinkNine (k, refOf l v) → HeldBy (m .nodes) l v
         → InEdgesBy l v → FiledBy (m .cells) (m .bytes) l above k v
-        → GoodV seen l (map suc above) (keyView k) (bare l (valueView l v))
+        → RightValue seen l (map suc above) (keyView k) (bareValue l (valueView l v))
 
-    layer-sorted : (l : ℕ) (v : Layer l) → Held (m .nodes) l v → InEdges l v → trees.Sorted cmpK (baredAll l (v .1))
+    layer-sorted : (l : ℕ) (v : Layer l) → Held (m .nodes) l v → InEdges l v → Sorted layerOrder (baredAll l (v .1))
     layer-sorted l v held edges =
         let h = v .0 .0 in
         let t = v .0 .1 in
-        let e : map entryView (entriesOf h t) ≡ map (ent l) (map (valueEntry l) (v .1)) =
+        let e : map entryView (entriesOf h t) ≡ map (pointerEntry l) (map (valueEntry l) (v .1)) =
         ap (map entryView) (held .1) ∙ sym (pointers-view l (v .1)) in
-        let s : trees.Sorted cmpK (map entryView (entriesOf h t)) =
-        subst (trees.Sorted cmpK) (list-view h t)
-        (list-sorted Ptr 15 h 0 rightEdge (treeView h t) (wf-view m nodes-whole h 0 rightEdge t (held .0) (edges .0))) in
-        beside-sorted (bare l) (sorted-beside (ptr l) (map (valueEntry l) (v .1)) (subst (trees.Sorted cmpK) e s))
+        let s : Sorted layerOrder (map entryView (entriesOf h t)) =
+        subst (Sorted layerOrder) (list-view h t)
+        (tree-sorted Pointer 15 h 0 rightEdge (treeView h t) (wf-view m nodes-whole h 0 rightEdge t (held .0) (edges .0))) in
+        beside-sorted (bareValue l) (sorted-beside (pointerOf l) (map (valueEntry l) (v .1)) (subst (Sorted layerOrder) e s))
 
     goods-all : (l : ℕ) → ValueGood l → (above : List ℕ) → length above + l ≡ 31 → {es : List (Key × Value l)}
         → All (λ e. LinkNine (e .0, refOf l (e .1))) es → All (λ e. HeldBy (m .nodes) l (e .1)) es
         → All (λ e. InEdgesBy l (e .1)) es → All (λ e. FiledBy (m .cells) (m .bytes) l above (e .0) (e .1)) es
-        → trees.All (Good l (map suc above)) (baredAll l es)
-    goods-all l f above depth a[] a[] a[] a[] = trees.a[]
+        → All (Good l (map suc above)) (baredAll l es)
+    goods-all l f above depth a[] a[] a[] a[] = a[]
     goods-all l f above depth (_a∷_ {x = e} n ns) (h a∷ hs) (b a∷ bs) (t a∷ ts) =
-        trees._a∷_ (f above (e .0) (e .1) depth n h b t) (goods-all l f above depth ns hs bs ts)
+        (f above (e .0) (e .1) depth n h b t) a∷ (goods-all l f above depth ns hs bs ts)
 
     layer-goods : (l : ℕ) → ValueGood l → (above : List ℕ) (v : Layer l) → length above + l ≡ 31 → Held (m .nodes) l v → InEdges l v
-        → Filed (m .cells) (m .bytes) l above v → trees.All (Good l (map suc above)) (baredAll l (v .1))
+        → Filed (m .cells) (m .bytes) l above v → All (Good l (map suc above)) (baredAll l (v .1))
     layer-goods l f above v depth held edges files =
         let nine : All (λ e. LinkNine (e .0, refOf l (e .1))) (v .1) =
         all-unmapped (λ e. (e .0, refOf l (e .1))) (v .1)
@@ -169,12 +167,12 @@ module _ (m : Memory) (cells-whole : length (m .cells) ≡ cellsIn m * 2) where
     value-good (suc l) above k (inr v) depth nine held edges files = (
       nine (rootOf v) refl,
       layer-sorted l v held edges,
-      subst (λ (ks : List ℕ). trees.All (Good l ks) (baredAll l (v .1))) (map-append suc above (k .0 ∷ []))
+      subst (λ (ks : List ℕ). All (Good l ks) (baredAll l (v .1))) (map-append suc above (k .0 ∷ []))
           (layer-goods l (value-good l) (above ++ k .0 ∷ []) v (omega (arith, length-append above (k .0 ∷ []))) held edges files),
     )
 
     pub layer-good : (v : Layer 31) → Held (m .nodes) 31 v → InEdges 31 v → Filed (m .cells) (m .bytes) 31 [] v
-        → trees.Sorted cmpK (baredAll 31 (v .1)) × trees.All (Good 31 []) (baredAll 31 (v .1))
+        → Sorted layerOrder (baredAll 31 (v .1)) × All (Good 31 []) (baredAll 31 (v .1))
     layer-good v held edges files = (layer-sorted 31 v held edges, layer-goods 31 (value-good 31) [] v refl held edges files)
 
   -- ---- and back: where each cell that is reached is right
@@ -185,13 +183,13 @@ module _ (m : Memory) (cells-whole : length (m .cells) ≡ cellsIn m * 2) where
   abbrev ValueFiles : ℕ → Type 0
   ValueFiles l =
       (above : List ℕ) (k : Key) (v : Value l) → ((j : ℕ) → 0 < reachedBy l v (cellNo j) → RightCell j)
-      → GoodV seen l (map suc above) (keyView k) (bare l (valueView l v)) → FiledBy (m .cells) (m .bytes) l above k v
+      → RightValue seen l (map suc above) (keyView k) (bareValue l (valueView l v)) → FiledBy (m .cells) (m .bytes) l above k v
 
   files-all : (l : ℕ) → ValueFiles l → (above : List ℕ) (es : List (Key × Value l))
       → ((j : ℕ) → 0 < total (λ e. reachedBy l (e .1) (cellNo j)) es → RightCell j)
-      → trees.All (Good l (map suc above)) (baredAll l es) → All (λ e. FiledBy (m .cells) (m .bytes) l above (e .0) (e .1)) es
+      → All (Good l (map suc above)) (baredAll l es) → All (λ e. FiledBy (m .cells) (m .bytes) l above (e .0) (e .1)) es
   files-all l f above [] right goods = a[]
-  files-all l f above (e ∷ es) right (trees._a∷_ g gs) =
+  files-all l f above (e ∷ es) right (g a∷ gs) =
       f above (e .0) (e .1) (λ j h. right j (omega arith)) g a∷ files-all l f above es (λ j h. right j (omega arith)) gs
 
   value-files : (l : ℕ) → ValueFiles l
@@ -201,27 +199,27 @@ module _ (m : Memory) (cells-whole : length (m .cells) ≡ cellsIn m * 2) where
       let (h, r) = right c (omega (arith, once-same (cellNo c))) in cell-filed above k c (suc l) h r good
   value-files (suc l) above k (inr v) right good =
       files-all l (value-files l) (above ++ k .0 ∷ []) (v .1) (λ j h. right j (omega arith))
-      (subst (λ (ks : List ℕ). trees.All (Good l ks) (baredAll l (v .1))) (sym (map-append suc above (k .0 ∷ []))) (good .2))
+      (subst (λ (ks : List ℕ). All (Good l ks) (baredAll l (v .1))) (sym (map-append suc above (k .0 ∷ []))) (good .2))
 
   pub good-layer : (v : Layer 31) → ((j : ℕ) → 0 < reached 31 v (cellNo j) → RightCell j)
-      → trees.All (Good 31 []) (baredAll 31 (v .1)) → Filed (m .cells) (m .bytes) 31 [] v
+      → All (Good 31 []) (baredAll 31 (v .1)) → Filed (m .cells) (m .bytes) 31 [] v
   good-layer v right goods = files-all 31 (value-files 31) [] (v .1) (λ j h. right j (omega arith)) goods
 
   -- ---- the listing
 
   lists-seen : (l : ℕ) → ((above : List ℕ) (k : Key) (v : Value l) → FiledBy (m .cells) (m .bytes) l above k v
-      → listV seen l (bare l (valueView l v)) ≡ listedBy (m .cells) (m .bytes) l v)
+      → valueListing seen l (bareValue l (valueView l v)) ≡ listedBy (m .cells) (m .bytes) l v)
       → (above : List ℕ) {es : List (Key × Value l)} → All (λ e. FiledBy (m .cells) (m .bytes) l above (e .0) (e .1)) es
-      → flat (listE seen l) (baredAll l es) ≡ joined (λ e. listedBy (m .cells) (m .bytes) l (e .1)) es
+      → flattened (entryListing seen l) (baredAll l es) ≡ flattened (λ e. listedBy (m .cells) (m .bytes) l (e .1)) es
   lists-seen l f above a[] = refl
   lists-seen l f above (_a∷_ {x = e} p ps) = ap₂ _++_ (f above (e .0) (e .1) p) (lists-seen l f above ps)
 
   value-seen : (l : ℕ) (above : List ℕ) (k : Key) (v : Value l) → FiledBy (m .cells) (m .bytes) l above k v
-      → listV seen l (bare l (valueView l v)) ≡ listedBy (m .cells) (m .bytes) l v
+      → valueListing seen l (bareValue l (valueView l v)) ≡ listedBy (m .cells) (m .bytes) l v
   value-seen zero above k c files = ap (_∷ []) (filed-seen above k c files)
   value-seen (suc l) above k (inl c) files = ap (_∷ []) (filed-seen above k c files)
   value-seen (suc l) above k (inr v) files = lists-seen l (value-seen l) (above ++ k .0 ∷ []) files
 
   pub layer-listed : (l : ℕ) (above : List ℕ) (v : Layer l) → Filed (m .cells) (m .bytes) l above v
-      → flat (listE seen l) (baredAll l (v .1)) ≡ listed (m .cells) (m .bytes) l v
+      → flattened (entryListing seen l) (baredAll l (v .1)) ≡ listed (m .cells) (m .bytes) l v
   layer-listed l above v files = lists-seen l (value-seen l) above files

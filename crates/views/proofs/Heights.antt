@@ -16,11 +16,13 @@ use Rattle.forest.specs.Layers.{rootOf}
 use Rattle.forest.specs.IsTree.{Layers, IsTree}
 use Rattle.forest.specs.Walk.{heightAt}
 use Rattle.forest.proofs.Heights.{height-found, not-high}
-use Rattle.trees.specs.Base.{Key, free, leaf, inner, Mem, get}
-use Rattle.trees.specs.Find.{high, high-is}
-use Rattle.trees.specs.Depth.{depth}
-use Rattle.trees.specs.Top.{Tall, rootA, cntA, Has, lows}
-use Rattle.trees.specs.Lays.{Ptr}
+use Rattle.trees.specs.Nodes.{IkeyClass, free, leaf, internode, NodeList, nodeIn}
+use Rattle.trees.specs.Tree.{AnyTree, anyRoot, anyReaches, HoldsAny}
+use Rattle.trees.specs.FindInMemory.{heightFrom}
+use Rattle.trees.specs.Layers.{Pointer}
+use Rattle.trees.proofs.FindInTree.{heightFrom-is}
+use Rattle.trees.proofs.OneLayer.{lows-agree}
+use Rattle.trees.proofs.Depth.{height-below-length}
 use Rattle.views.specs.Views.{nodesView, layerView}
 use Rattle.views.proofs.Nodes.{nodesIn, nodes-long, node-at, node-beyond, inner-view, leaf-view, other-view}
 use Rattle.views.proofs.TreeViews.{root-view, count-view}
@@ -38,23 +40,23 @@ module _ (nodes : List ℕ) (steps k : ℕ) where
   unfolding heightAt
   height-none ne = rw (ne-eqb (kindAt nodes k) 2 ne)
 
-module _ {W : Type 0} (m : Mem W) (steps k : ℕ) where
-  high-inner : {ks cs : List ℕ} → get m k ≡ inner ks cs → high (suc steps) m k ≡ suc (high steps m (getD cs 0 0))
+module _ {W : Type 0} (m : NodeList W) (steps k : ℕ) where
+  high-inner : {ks cs : List ℕ} → nodeIn m k ≡ internode ks cs → heightFrom (suc steps) m k ≡ suc (heightFrom steps m (getD cs 0 0))
   high-inner e = rw e
 
-  high-leaf : {es : List (Key × W)} → get m k ≡ leaf es → high (suc steps) m k ≡ 0
+  high-leaf : {es : List (IkeyClass × W)} → nodeIn m k ≡ leaf es → heightFrom (suc steps) m k ≡ 0
   high-leaf e = rw e
 
-  high-free : get m k ≡ free → high (suc steps) m k ≡ 0
+  high-free : nodeIn m k ≡ free → heightFrom (suc steps) m k ≡ 0
   high-free e = rw e
 
 module _ (m : Memory) (whole : length (m .nodes) ≡ 2 + nodesIn m * 47) where
-  high-none : (steps k : ℕ) → (kindAt (m .nodes) k ≡ 2 → ⊥) → high (suc steps) (nodesView m) k ≡ 0
+  high-none : (steps k : ℕ) → (kindAt (m .nodes) k ≡ 2 → ⊥) → heightFrom (suc steps) (nodesView m) k ≡ 0
   high-none steps k two =
       ⊎-elim (λ h. go (ℕ-discrete (kindAt (m .nodes) k) 1) h) (λ h. high-free (nodesView m) steps k (node-beyond m k h))
       (lt-or-ge k (nodesIn m))
     where
-      go : Dec (kindAt (m .nodes) k ≡ 1) → k < nodesIn m → high (suc steps) (nodesView m) k ≡ 0
+      go : Dec (kindAt (m .nodes) k ≡ 1) → k < nodesIn m → heightFrom (suc steps) (nodesView m) k ≡ 0
       go (yes one) h = high-leaf (nodesView m) steps k (node-at m k h ∙ leaf-view (m .nodes) k one)
       go (no one) h = high-free (nodesView m) steps k (node-at m k h ∙ other-view (m .nodes) k one two)
 
@@ -64,7 +66,7 @@ module _ (m : Memory) (whole : length (m .nodes) ≡ 2 + nodesIn m * 47) where
       (lt-or-ge k (nodesIn m))
 
   -- the same at each number, whatever stands there
-  pub height-same : (steps k : ℕ) → heightAt (m .nodes) steps k ≡ high steps (nodesView m) k
+  pub height-same : (steps k : ℕ) → heightAt (m .nodes) steps k ≡ heightFrom steps (nodesView m) k
   unfolding heightAt
   height-same zero k = refl
   height-same (suc steps) k = go (ℕ-discrete (kindAt (m .nodes) k) 2) (height-same steps (getD (childrenAt (m .nodes) k) 0 0))
@@ -72,8 +74,8 @@ module _ (m : Memory) (whole : length (m .nodes) ≡ 2 + nodesIn m * 47) where
       first : ℕ
       first = getD (childrenAt (m .nodes) k) 0 0
 
-      go : Dec (kindAt (m .nodes) k ≡ 2) → heightAt (m .nodes) steps first ≡ high steps (nodesView m) first
-          → heightAt (m .nodes) (suc steps) k ≡ high (suc steps) (nodesView m) k
+      go : Dec (kindAt (m .nodes) k ≡ 2) → heightAt (m .nodes) steps first ≡ heightFrom steps (nodesView m) first
+          → heightAt (m .nodes) (suc steps) k ≡ heightFrom (suc steps) (nodesView m) k
       go (yes e) ih =
           height-internode (m .nodes) steps k e ∙ ap suc ih
           ∙ sym (high-inner (nodesView m) steps k (node-at m k (internode-in k e) ∙ inner-view (m .nodes) k e))
@@ -88,23 +90,23 @@ module _ (m : Memory) (whole : length (m .nodes) ≡ 2 + nodesIn m * 47) where
         height-found (m .nodes) h 255 lo hi t (omega arith) held b
 
     -- the root of a tree that the view has, no node twice
-    pub root-height : (t : Tall Ptr) → Has Ptr 15 rightEdge (nodesView m) t → ((j : ℕ) → cntA Ptr t j ≤ 1)
-        → heightAt (m .nodes) 255 (rootA Ptr t) ≡ high (length (nodesView m)) (nodesView m) (rootA Ptr t)
+    pub root-height : (t : AnyTree Pointer) → HoldsAny Pointer 15 rightEdge (nodesView m) t → ((j : ℕ) → anyReaches Pointer t j ≤ 1)
+        → heightAt (m .nodes) 255 (anyRoot Pointer t) ≡ heightFrom (length (nodesView m)) (nodesView m) (anyRoot Pointer t)
     root-height t has once-each =
         let d = t .0 in
-        let low = lows Ptr 15 0 (λ e. 0) rightEdge d 0 rightEdge (t .1) (has .0) in
-        let deep : d < length (nodesView m) = depth Ptr 15 (nodesView m) d 0 (t .1) (has .1) low once-each in
-        height-same 255 (rootA Ptr t)
-        ∙ high-is Ptr 15 (nodesView m) d 255 (omega (arith, nodes-long m)) 0 (t .1) (has .1) low
-        ∙ sym (high-is Ptr 15 (nodesView m) d (length (nodesView m)) deep 0 (t .1) (has .1) low)
+        let low = lows-agree Pointer 15 0 (λ e. 0) rightEdge d 0 rightEdge (t .1) (has .0) in
+        let deep : d < length (nodesView m) = height-below-length Pointer 15 (nodesView m) d 0 (t .1) (has .1) low once-each in
+        height-same 255 (anyRoot Pointer t)
+        ∙ heightFrom-is Pointer 15 (nodesView m) d 255 (omega (arith, nodes-long m)) 0 (t .1) (has .1) low
+        ∙ sym (heightFrom-is Pointer 15 (nodesView m) d (length (nodesView m)) deep 0 (t .1) (has .1) low)
 
 -- the root of the whole
 pub height-view : (m : Memory) (v : Layers) → IsTree m v
-    → heightAt (m .nodes) 255 (rootOf v) ≡ high (length (nodesView m)) (nodesView m) (rootOf v)
+    → heightAt (m .nodes) 255 (rootOf v) ≡ heightFrom (length (nodesView m)) (nodesView m) (rootOf v)
 height-view m v t =
     let right = lengths m (t .lent) in
     let root = root-view (v .0 .0) (v .0 .1) in
-    subst (λ (r : ℕ). heightAt (m .nodes) 255 r ≡ high (length (nodesView m)) (nodesView m) r) root
+    subst (λ (r : ℕ). heightAt (m .nodes) 255 r ≡ heightFrom (length (nodesView m)) (nodesView m) r) root
     (root-height m (right .nodes-whole) (right .n-high) (layerView 31 v .0)
     (layer-view m (right .nodes-whole) 31 v (t .held) (t .in-edges) .0)
     (λ j. omega (arith, count-view (v .0 .0) (v .0 .1) j, t .at-most-once (nodeNo j))))

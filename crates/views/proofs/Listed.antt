@@ -2,53 +2,39 @@
 -- Assumes nothing.
 use mathlib.Core.Path.{_≡_, refl, sym, ap, ap₂, _∙_, subst}
 use mathlib.Core.Logic.{inl, inr}
-use mathlib.Core.List.{List, [], _∷_, _++_, map, append-assoc}
+use mathlib.Core.List.{List, [], _∷_, _++_, map}
 use Prim.Native.Nat.{ℕ, zero, suc, _+_, _*_, _≤_}
 use native.Mathlib.Omega.{arith}
 use lib.Dec.{T}
 use lib.ListN.{length}
 use Rattle.bank.proofs.Tests.{and-left}
 use Rattle.order.specs.Map.{All, a[], _a∷_}
-use Rattle.leaf.proofs.Lists.{map-append}
+use Rattle.order.specs.Lists.{total, flattened}
+use Rattle.order.proofs.Lists.{flattened-append}
 use Rattle.arena.specs.Layout as layout
 use Rattle.arena.specs.Layout.{keyAt, frameAt}
 use Rattle.arena.specs.Memory.{Memory}
 use Rattle.forest.specs.Cells.{cellRight, filed}
-use Rattle.forest.specs.Trees.{Key, Ref, Tree, topOf, joined, entriesOf, total, Holds, leftmost, rightmost}
-use Rattle.forest.specs.Layers.{Value, Layer, rootOf, refOf, reachedBy, reached, HeldBy, Held, InEdgesBy, InEdges}
-use Rattle.forest.specs.Layers.{FiledBy, Filed, listedBy, listed}
+use Rattle.forest.specs.Trees.{Key, Ref, Tree, topOf, entriesOf, Holds, leftmost, rightmost}
+use Rattle.forest.specs.Layers.{Value, Layer, rootOf, refOf, reachedBy, reached, HeldBy, Held, InEdgesBy, InEdges, FiledBy, Filed, listedBy}
+use Rattle.forest.specs.Layers.{listed}
 use Rattle.forest.specs.IsTree.{Layers, IsTree, listing}
 use Rattle.forest.specs.Walk.{heightAt}
 use Rattle.model.specs.Listed.{cellsOf, cellsOfLeaf, cellsOfNode, cellsOfOne, cellsOfLayer}
-use Rattle.views.proofs.Lists.{all-joined}
+use Rattle.views.proofs.Lists.{flattened-map, map-flattened, flattened-all}
 use Rattle.views.proofs.Nodes.{nodesIn}
 use Rattle.views.proofs.Heights.{tree-height}
 use Rattle.views.proofs.Whole.{lengths}
-
--- ---- lists put together
-
-joined-append : {A B : Type 0} (f : A → List B) (xs ys : List A) → joined f (xs ++ ys) ≡ joined f xs ++ joined f ys
-joined-append f [] ys = refl
-joined-append f (x ∷ xs) ys = ap (f x ++_) (joined-append f xs ys) ∙ sym (append-assoc (f x) (joined f xs) (joined f ys))
-
-joined-map : {A B C : Type 0} (f : A → B) (g : B → List C) (xs : List A) → joined g (map f xs) ≡ joined (λ x. g (f x)) xs
-joined-map f g [] = refl
-joined-map f g (x ∷ xs) = ap (g (f x) ++_) (joined-map f g xs)
-
-map-joined : {A B C : Type 0} (f : B → C) (g : A → List B) (h : A → List C) → ((x : A) → map f (g x) ≡ h x) → (xs : List A)
-    → map f (joined g xs) ≡ joined h xs
-map-joined f g h e [] = refl
-map-joined f g h e (x ∷ xs) = map-append f (g x) (joined g xs) ∙ ap₂ _++_ (e x) (map-joined f g h e xs)
 
 -- ---- the cells of layers
 
 abbrev pub cellsBy : (l : ℕ) → Value l → List ℕ
 cellsBy zero c = c ∷ []
 cellsBy (suc l) (inl c) = c ∷ []
-cellsBy (suc l) (inr v) = joined (λ e. cellsBy l (e .1)) (v .1)
+cellsBy (suc l) (inr v) = flattened (λ e. cellsBy l (e .1)) (v .1)
 
 abbrev pub cellsOfEntries : (l : ℕ) → Layer l → List ℕ
-cellsOfEntries l v = joined (λ e. cellsBy l (e .1)) (v .1)
+cellsOfEntries l v = flattened (λ e. cellsBy l (e .1)) (v .1)
 
 -- ---- one tree
 
@@ -57,19 +43,19 @@ module _ (nodes : List ℕ) (below : ℕ → List ℕ) where
   entryCells e = cellsOf below (e .1)
 
   children-cells : (h : ℕ)
-      → ((t : Tree h) → Holds nodes h t → cellsOfNode below nodes h (topOf h t) ≡ joined entryCells (entriesOf h t))
+      → ((t : Tree h) → Holds nodes h t → cellsOfNode below nodes h (topOf h t) ≡ flattened entryCells (entriesOf h t))
       → {ps : List (ℕ × Tree h)} → All (λ p. Holds nodes h (p .1)) ps
-      → joined (λ p. cellsOfNode below nodes h (topOf h (p .1))) ps ≡ joined entryCells (joined (λ p. entriesOf h (p .1)) ps)
+      → flattened (λ p. cellsOfNode below nodes h (topOf h (p .1))) ps ≡ flattened entryCells (flattened (λ p. entriesOf h (p .1)) ps)
   children-cells h f a[] = refl
   children-cells h f (_a∷_ {x = p} {xs = ps} g gs) =
       ap₂ _++_ (f (p .1) g) (children-cells h f gs)
-      ∙ sym (joined-append entryCells (entriesOf h (p .1)) (joined (λ p. entriesOf h (p .1)) ps))
+      ∙ sym (flattened-append entryCells (entriesOf h (p .1)) (flattened (λ p. entriesOf h (p .1)) ps))
 
-  node-cells : (h : ℕ) (t : Tree h) → Holds nodes h t → cellsOfNode below nodes h (topOf h t) ≡ joined entryCells (entriesOf h t)
+  node-cells : (h : ℕ) (t : Tree h) → Holds nodes h t → cellsOfNode below nodes h (topOf h t) ≡ flattened entryCells (entriesOf h t)
   unfolding cellsOfNode cellsOfLeaf
-  node-cells zero t held = ap (joined entryCells) (held .1)
+  node-cells zero t held = ap (flattened entryCells) (held .1)
   node-cells (suc h) t held =
-      ap (joined (cellsOfNode below nodes h)) (held .2) ∙ joined-map (λ p. topOf h (p .1)) (cellsOfNode below nodes h) (t .1)
+      ap (flattened (cellsOfNode below nodes h)) (held .2) ∙ flattened-map (λ p. topOf h (p .1)) (cellsOfNode below nodes h) (t .1)
       ∙ children-cells h (node-cells h) (held .3)
 
 -- ---- layers
@@ -93,7 +79,7 @@ module _ (m : Memory) (whole : length (m .nodes) ≡ 2 + nodesIn m * 47) (few : 
 
   entries-cells : (l : ℕ) → ValueCells l → {es : List (Key × Value l)} → All (λ e. HeldBy (m .nodes) l (e .1)) es
       → All (λ e. InEdgesBy l (e .1)) es → ((i : ℕ) → total (λ e. reachedBy l (e .1) i) es ≤ 1)
-      → joined (λ e. cellsOf (belowOf (m .nodes) l) (refOf l (e .1))) es ≡ joined (λ e. cellsBy l (e .1)) es
+      → flattened (λ e. cellsOf (belowOf (m .nodes) l) (refOf l (e .1))) es ≡ flattened (λ e. cellsBy l (e .1)) es
   entries-cells l f a[] a[] once-each = refl
   entries-cells l f (_a∷_ {x = e} h hs) (b a∷ bs) once-each =
       ap₂ _++_ (f (e .1) h b (λ i. omega (arith, once-each i))) (entries-cells l f hs bs (λ i. omega (arith, once-each i)))
@@ -107,8 +93,8 @@ module _ (m : Memory) (whole : length (m .nodes) ≡ 2 + nodesIn m * 47) (few : 
       let high : heightAt (m .nodes) 255 (topOf h t) ≡ h =
       tree-height m whole few h leftmost rightmost t (held .0) (edges .0) (λ i. omega (arith, once-each i)) in
       layer-one (m .nodes) l (rootOf v) ∙ ap (λ (h : ℕ). cellsOfNode below (m .nodes) h (rootOf v)) high
-      ∙ node-cells (m .nodes) below h t (held .0) ∙ ap (joined (λ e. cellsOf below (e .1))) (held .1)
-      ∙ joined-map (λ e. (e .0, refOf l (e .1))) (λ e. cellsOf below (e .1)) (v .1)
+      ∙ node-cells (m .nodes) below h t (held .0) ∙ ap (flattened (λ e. cellsOf below (e .1))) (held .1)
+      ∙ flattened-map (λ e. (e .0, refOf l (e .1))) (λ e. cellsOf below (e .1)) (v .1)
       ∙ entries-cells l f (held .2) (edges .1) (λ i. omega (arith, once-each i))
 
   value-cells : (l : ℕ) → ValueCells l
@@ -131,11 +117,11 @@ module _ (cells bytes : List ℕ) where
   value-listed zero c = refl
   value-listed (suc l) (inl c) = refl
   value-listed (suc l) (inr v) =
-      map-joined keyAndFrame (λ e. cellsBy l (e .1)) (λ e. listedBy cells bytes l (e .1)) (λ e. value-listed l (e .1)) (v .1)
+      map-flattened keyAndFrame (λ e. cellsBy l (e .1)) (λ e. listedBy cells bytes l (e .1)) (λ e. value-listed l (e .1)) (v .1)
 
   entries-listed : (l : ℕ) (v : Layer l) → map keyAndFrame (cellsOfEntries l v) ≡ listed cells bytes l v
   entries-listed l v =
-      map-joined keyAndFrame (λ e. cellsBy l (e .1)) (λ e. listedBy cells bytes l (e .1)) (λ e. value-listed l (e .1)) (v .1)
+      map-flattened keyAndFrame (λ e. cellsBy l (e .1)) (λ e. listedBy cells bytes l (e .1)) (λ e. value-listed l (e .1)) (v .1)
 
   abbrev AllRight : List ℕ → Type 0
   AllRight cs = All (λ c. T (cellRight cells bytes c)) cs
@@ -148,10 +134,10 @@ module _ (cells bytes : List ℕ) where
   value-right zero above k c files = filed-right above k c files
   value-right (suc l) above k (inl c) files = filed-right above k c files
   value-right (suc l) above k (inr v) files =
-      all-joined (λ e. cellsBy l (e .1)) (λ e. value-right l (above ++ k .0 ∷ []) (e .0) (e .1)) files
+      flattened-all (λ e. cellsBy l (e .1)) (λ e. value-right l (above ++ k .0 ∷ []) (e .0) (e .1)) files
 
   entries-right : (l : ℕ) (above : List ℕ) (v : Layer l) → Filed cells bytes l above v → AllRight (cellsOfEntries l v)
-  entries-right l above v files = all-joined (λ e. cellsBy l (e .1)) (λ e. value-right l above (e .0) (e .1)) files
+  entries-right l above v files = flattened-all (λ e. cellsBy l (e .1)) (λ e. value-right l above (e .0) (e .1)) files
 
 -- ---- the whole
 

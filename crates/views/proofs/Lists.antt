@@ -4,11 +4,9 @@ use mathlib.Core.List.{List, [], _∷_, _++_, map}
 use Prim.Native.Nat.{ℕ, _+_}
 use native.Mathlib.Omega.{arith}
 use Rattle.order.specs.Map.{All, a[], _a∷_}
+use Rattle.order.specs.Lists.{total, flattened}
 use Rattle.order.proofs.Map.{all-append}
 use Rattle.leaf.proofs.Lists.{map-append}
-use Rattle.forest.specs.Trees.{total, joined}
-use Rattle.trees.specs.SMap as trees
-use Rattle.trees.specs.Base as base
 
 pub map-map : {A B C : Type 0} (f : A → B) (g : B → C) (xs : List A) → map g (map f xs) ≡ map (λ x. g (f x)) xs
 map-map f g [] = refl
@@ -41,35 +39,39 @@ module _ {A B : Type 0} (f : A → B) where
 
   -- what holds of each member, there and back
   module _ {P : A → Type 0} {Q : B → Type 0} where
-    pub all-to : ((x : A) → P x → Q (f x)) → {xs : List A} → All P xs → trees.All Q (map f xs)
-    all-to h a[] = trees.a[]
-    all-to h (p a∷ ps) = trees._a∷_ (h _ p) (all-to h ps)
+    pub all-to : ((x : A) → P x → Q (f x)) → {xs : List A} → All P xs → All Q (map f xs)
+    all-to h a[] = a[]
+    all-to h (p a∷ ps) = (h _ p) a∷ (all-to h ps)
 
-    pub all-from : ((x : A) → Q (f x) → P x) → (xs : List A) → trees.All Q (map f xs) → All P xs
+    pub all-from : ((x : A) → Q (f x) → P x) → (xs : List A) → All Q (map f xs) → All P xs
     all-from h [] qs = a[]
-    all-from h (x ∷ xs) (trees._a∷_ q qs) = h x q a∷ all-from h xs qs
+    all-from h (x ∷ xs) (q a∷ qs) = h x q a∷ all-from h xs qs
 
   -- a list of which each member is one of f is one of f
-  pub unmap : {ys : List B} → trees.All (λ y. (x : A) × (f x ≡ y)) ys → (xs : List A) × (map f xs ≡ ys)
-  unmap trees.a[] = ([], refl)
-  unmap (trees._a∷_ (x, e) rest) = let (xs, es) = unmap rest in (x ∷ xs, λ i. e i ∷ es i)
+  pub unmap : {ys : List B} → All (λ y. (x : A) × (f x ≡ y)) ys → (xs : List A) × (map f xs ≡ ys)
+  unmap a[] = ([], refl)
+  unmap ((x, e) a∷ rest) = let (xs, es) = unmap rest in (x ∷ xs, λ i. e i ∷ es i)
 
   -- sums
-  pub total-view : (g : A → ℕ) (h : B → ℕ) → ((x : A) → h (f x) ≡ g x) → (xs : List A) → base.total h (map f xs) ≡ total g xs
+  pub total-view : (g : A → ℕ) (h : B → ℕ) → ((x : A) → h (f x) ≡ g x) → (xs : List A) → total h (map f xs) ≡ total g xs
   total-view g h e [] = refl
   total-view g h e (x ∷ xs) = ap₂ _+_ (e x) (total-view g h e xs)
 
   -- lists put together
-  pub joined-view : {C D : Type 0} (w : C → D) (g : A → List C) (h : B → List D) → ((x : A) → h (f x) ≡ map w (g x)) → (xs : List A)
-      → base.flat h (map f xs) ≡ map w (joined g xs)
-  joined-view w g h e [] = refl
-  joined-view w g h e (x ∷ xs) = ap₂ _++_ (e x) (joined-view w g h e xs) ∙ sym (map-append w (g x) (joined g xs))
+  pub flattened-map : {C : Type 0} (g : B → List C) (xs : List A) → flattened g (map f xs) ≡ flattened (λ x. g (f x)) xs
+  flattened-map g [] = refl
+  flattened-map g (x ∷ xs) = ap (g (f x) ++_) (flattened-map g xs)
+
+  pub map-flattened : {C : Type 0} (g : C → List A) (h : C → List B) → ((x : C) → map f (g x) ≡ h x) → (xs : List C)
+      → map f (flattened g xs) ≡ flattened h xs
+  map-flattened g h e [] = refl
+  map-flattened g h e (x ∷ xs) = map-append f (g x) (flattened g xs) ∙ ap₂ _++_ (e x) (map-flattened g h e xs)
 
 pub total-zero : {A : Type 0} (g : A → ℕ) → ((x : A) → g x ≡ 0) → (xs : List A) → total g xs ≡ 0
 total-zero g h [] = refl
 total-zero g h (x ∷ xs) = omega (arith, h x, total-zero g h xs)
 
-pub all-joined : {A B : Type 0} {P : A → Type 0} {Q : B → Type 0} (g : A → List B) → ((x : A) → P x → All Q (g x)) → {xs : List A}
-    → All P xs → All Q (joined g xs)
-all-joined g h a[] = a[]
-all-joined g h (p a∷ ps) = all-append (h _ p) (all-joined g h ps)
+pub flattened-all : {A B : Type 0} {P : A → Type 0} {Q : B → Type 0} (g : A → List B) → ((x : A) → P x → All Q (g x)) → {xs : List A}
+    → All P xs → All Q (flattened g xs)
+flattened-all g h a[] = a[]
+flattened-all g h (p a∷ ps) = all-append (h _ p) (flattened-all g h ps)

@@ -1,7 +1,7 @@
 -- Tables, and the views of nodes and cells as tables: what stands at a number, one number changed, and which are free.
 -- Assumes nothing.
 use mathlib.Core.Path.{_≡_, refl, sym, ap, _∙_}
-use mathlib.Core.Bool.{Bool, true, false, _||_}
+use mathlib.Core.Bool.{Bool, true, false, cond, _||_}
 use mathlib.Core.List.{List, [], _∷_, map}
 use mathlib.Core.Logic.{_⊎_, inl, inr, ⊎-elim}
 use mathlib.Core.Option.{Option, none, some}
@@ -18,11 +18,11 @@ use Rattle.arena.specs.Memory.{Memory, nodeCount, cellCount}
 use Rattle.arena.proofs.Words.{part-at}
 use Rattle.forest.specs.Nodes.{allZero, entriesAt, ikeysAt, childrenAt, leafRight, internodeRight, nodeFree}
 use Rattle.forest.specs.Cells.{cellRight, cellFree}
-use Rattle.forest.specs.Trees.{choose, seenAs}
+use Rattle.forest.specs.Trees.{seenAs}
 use Rattle.forest.proofs.Inside.{leaf-kind, internode-kind}
-use Rattle.trees.specs.Base.{Node, free, leaf, inner, Mem, get}
-use Rattle.trees.specs.MemA.{frees}
-use Rattle.trees.specs.Cells.{Cells, freeC}
+use Rattle.trees.specs.Nodes.{Node, free, leaf, internode, NodeList, nodeIn}
+use Rattle.trees.specs.FreeNumbers.{freeNumbers}
+use Rattle.trees.specs.Cells.{CellList, freeCellNumbers}
 use Rattle.views.specs.Views.{tabled, entryView, nodeView, nodesView, cellView, cellsView, nodeSound, cellSound, Sound}
 
 -- ---- tables
@@ -82,20 +82,20 @@ module _ {A : Type 0} where
 abbrev freeNode : {W : Type 0} → Node W → Bool
 freeNode free = true
 freeNode (leaf es) = false
-freeNode (inner ks cs) = false
+freeNode (internode ks cs) = false
 
-frees-step : {W : Type 0} (i : ℕ) (x : Node W) (m : Mem W) → frees i (x ∷ m) ≡ consIf (freeNode x) i (frees (suc i) m)
+frees-step : {W : Type 0} (i : ℕ) (x : Node W) (m : NodeList W) → freeNumbers i (x ∷ m) ≡ consIf (freeNode x) i (freeNumbers (suc i) m)
 frees-step i free m = refl
 frees-step i (leaf es) m = refl
-frees-step i (inner ks cs) m = refl
+frees-step i (internode ks cs) m = refl
 
 frees-from : {W : Type 0} (f : ℕ → Node W) (test : ℕ → Bool) (i n : ℕ)
-    → ((k : ℕ) → i ≤ k → k < i + n → freeNode (f k) ≡ test k) → frees i (tabled f i n) ≡ passing test i n
+    → ((k : ℕ) → i ≤ k → k < i + n → freeNode (f k) ≡ test k) → freeNumbers i (tabled f i n) ≡ passing test i n
 unfolding passing
 frees-from f test i zero h = refl
 frees-from f test i (suc n) h =
     let first : freeNode (f i) ≡ test i = h i (omega arith) (omega arith) in
-    let later : frees (suc i) (tabled f (suc i) n) ≡ passing test (suc i) n =
+    let later : freeNumbers (suc i) (tabled f (suc i) n) ≡ passing test (suc i) n =
     frees-from f test (suc i) n (λ k a b. h k (omega arith) (omega arith)) in
     frees-step i (f i) (tabled f (suc i) n) ∙ (λ j. consIf (first j) i (later j))
 
@@ -103,17 +103,18 @@ abbrev freeCell : Option (List ℕ × ℕ) → Bool
 freeCell none = true
 freeCell (some x) = false
 
-freeC-step : (i : ℕ) (x : Option (List ℕ × ℕ)) (cs : Cells) → freeC i (x ∷ cs) ≡ consIf (freeCell x) i (freeC (suc i) cs)
+freeC-step : (i : ℕ) (x : Option (List ℕ × ℕ)) (cs : CellList)
+    → freeCellNumbers i (x ∷ cs) ≡ consIf (freeCell x) i (freeCellNumbers (suc i) cs)
 freeC-step i none cs = refl
 freeC-step i (some x) cs = refl
 
 freeC-from : (f : ℕ → Option (List ℕ × ℕ)) (test : ℕ → Bool) (i n : ℕ)
-    → ((k : ℕ) → i ≤ k → k < i + n → freeCell (f k) ≡ test k) → freeC i (tabled f i n) ≡ passing test i n
+    → ((k : ℕ) → i ≤ k → k < i + n → freeCell (f k) ≡ test k) → freeCellNumbers i (tabled f i n) ≡ passing test i n
 unfolding passing
 freeC-from f test i zero h = refl
 freeC-from f test i (suc n) h =
     let first : freeCell (f i) ≡ test i = h i (omega arith) (omega arith) in
-    let later : freeC (suc i) (tabled f (suc i) n) ≡ passing test (suc i) n =
+    let later : freeCellNumbers (suc i) (tabled f (suc i) n) ≡ passing test (suc i) n =
     freeC-from f test (suc i) n (λ k a b. h k (omega arith) (omega arith)) in
     freeC-step i (f i) (tabled f (suc i) n) ∙ (λ j. consIf (first j) i (later j))
 
@@ -137,7 +138,7 @@ module _ (nodes : List ℕ) (k : ℕ) where
   unfolding nodeView
   leaf-view e = rw (eq-eqb (kindAt nodes k) 1 e)
 
-  pub inner-view : kindAt nodes k ≡ 2 → nodeView nodes k ≡ inner (map suc (ikeysAt nodes k)) (childrenAt nodes k)
+  pub inner-view : kindAt nodes k ≡ 2 → nodeView nodes k ≡ internode (map suc (ikeysAt nodes k)) (childrenAt nodes k)
   unfolding nodeView
   inner-view e = rw (ne-eqb (kindAt nodes k) 1 (λ q. omega arith), eq-eqb (kindAt nodes k) 2 e)
 
@@ -206,7 +207,7 @@ module _ (cells bytes : List ℕ) (c : ℕ) where
   unfolding cellView
   cell-free-seen = go (eqb (markAt cells c) 0)
     where
-      go : (b : Bool) → freeCell (choose b none (some (keyAt cells bytes c, frameAt cells c))) ≡ b
+      go : (b : Bool) → freeCell (cond b none (some (keyAt cells bytes c, frameAt cells c))) ≡ b
       go true = refl
       go false = refl
 
@@ -248,10 +249,10 @@ module _ (m : Memory) where
   pub nodes-long : length (nodesView m) ≡ nodesIn
   nodes-long = length-tabled (nodeView (m .nodes)) 0 nodesIn
 
-  pub node-at : (k : ℕ) → k < nodesIn → get (nodesView m) k ≡ nodeView (m .nodes) k
+  pub node-at : (k : ℕ) → k < nodesIn → nodeIn (nodesView m) k ≡ nodeView (m .nodes) k
   node-at k h = getD-tabled (nodeView (m .nodes)) nodesIn k free h
 
-  pub node-beyond : (k : ℕ) → nodesIn ≤ k → get (nodesView m) k ≡ free
+  pub node-beyond : (k : ℕ) → nodesIn ≤ k → nodeIn (nodesView m) k ≡ free
   node-beyond k h = getD-beyond (nodeView (m .nodes)) nodesIn k free h
 
   pub cells-long : length (cellsView m) ≡ cellsIn
@@ -264,12 +265,12 @@ module _ (m : Memory) where
   cell-beyond c h = getD-beyond (cellView (m .cells) (m .bytes)) cellsIn c none h
 
   -- the free ones, lowest first
-  pub frees-view : Sound m → frees 0 (nodesView m) ≡ freeNodes (m .nodes) nodesIn
+  pub frees-view : Sound m → freeNumbers 0 (nodesView m) ≡ freeNodes (m .nodes) nodesIn
   frees-view sound =
       frees-from (nodeView (m .nodes)) (isFree nodeStart (m .nodes)) 0 nodesIn
       (λ k a b. free-seen (m .nodes) k (sound .nodes-sound k (omega arith)))
 
-  pub free-cells-view : freeC 0 (cellsView m) ≡ freeCells (m .cells) cellsIn
+  pub free-cells-view : freeCellNumbers 0 (cellsView m) ≡ freeCells (m .cells) cellsIn
   free-cells-view =
       freeC-from (cellView (m .cells) (m .bytes)) (isFree cellStart (m .cells)) 0 cellsIn
       (λ c a b. cell-free-seen (m .cells) (m .bytes) c)

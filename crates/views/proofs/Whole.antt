@@ -21,13 +21,13 @@ use Rattle.forest.specs.Trees.{nodeNo, cellNo}
 use Rattle.forest.specs.Layers.{rootOf, reached}
 use Rattle.forest.specs.IsTree.{Layers, IsTree, listing}
 use Rattle.forest.proofs.Inside.{leaf-kind, internode-kind, leaf-inside, internode-inside}
-use Rattle.trees.specs.MemA.{times}
-use Rattle.trees.specs.Lays.{Lay}
-use Rattle.trees.specs.Index as trees
+use Rattle.trees.specs.FreeNumbers.{timesIn}
+use Rattle.trees.specs.Layers.{Layered}
+use Rattle.trees.specs.WholeTree.{layerListing, IsWholeTree}
 use Rattle.views.specs.Views.{nodesView, cellsView, layerView, Sound}
 use Rattle.views.proofs.Nodes.{nodesIn, cellsIn, nodes-long, cells-long, frees-view, free-cells-view, node-cases, cell-cases}
-use Rattle.views.proofs.Nodes.{free-kind, free-mark, right-mark, free-sound, leaf-sound, internode-sound}
-use Rattle.views.proofs.Nodes.{free-cell-sound, right-cell-sound}
+use Rattle.views.proofs.Nodes.{free-kind, free-mark, right-mark, free-sound, leaf-sound, internode-sound, free-cell-sound}
+use Rattle.views.proofs.Nodes.{right-cell-sound}
 use Rattle.views.proofs.TreeViews.{root-view}
 use Rattle.views.proofs.LayerViews.{rightEdge, layer-view, view-layer, layer-behind}
 use Rattle.views.proofs.Counts.{nodes-reached, cells-reached, NodeUsed, node-used, cell-used, some-or-none}
@@ -35,8 +35,8 @@ use Rattle.views.proofs.Balance.{Balanced, balanced, counted-once, coun
 use Rattle.views.proofs.Files.{layer-good, good-layer, layer-listed}
 
 -- the view of memory is this tree: fifteen entries to a leaf, 31 links
-abbrev pub ViewIsTree : (m : Memory) → Lay 31 → Type 0
-ViewIsTree m w = trees.IsTree 15 rightEdge 31 (nodesIn m) (cellsIn m) (nodesView m) (cellsView m) (layout.rootOf (m .nodes)) w
+abbrev pub ViewIsTree : (m : Memory) → Layered 31 → Type 0
+ViewIsTree m w = IsWholeTree 15 rightEdge 31 (nodesIn m) (cellsIn m) (nodesView m) (cellsView m) (layout.rootOf (m .nodes)) w
 
 pub lengths : (m : Memory) → T (rightLengths (length (m .nodes)) (length (m .cells)) (length (m .bytes)))
     → Right (length (m .nodes)) (length (m .cells)) (length (m .bytes)) (nodesIn m) (cellsIn m)
@@ -109,12 +109,12 @@ module _ (m : Memory) (v : Layers) (t : IsTree m v) where
     holds = layer-view m (right .nodes-whole) 31 v (t .held) (t .in-edges);
     good = layer-good m (right .cells-whole) (right .nodes-whole) bytes v (t .held) (t .in-edges) (t .filed);
     size = (nodes-long m, cells-long m);
-    nodes = λ j. ap₂ _+_ (nodes-reached 31 v j) (ap (λ (ks : List ℕ). times ks j) (frees-view m sound-of)) ∙ nodes-balanced j;
-    cells = λ j. ap₂ _+_ (cells-reached 31 v j) (ap (λ (ks : List ℕ). times ks j) (free-cells-view m)) ∙ cells-balanced j;
+    nodes = λ j. ap₂ _+_ (nodes-reached 31 v j) (ap (λ (ks : List ℕ). timesIn ks j) (frees-view m sound-of)) ∙ nodes-balanced j;
+    cells = λ j. ap₂ _+_ (cells-reached 31 v j) (ap (λ (ks : List ℕ). timesIn ks j) (free-cells-view m)) ∙ cells-balanced j;
   }
 
   -- which lists the same
-  pub listing-view : listing m v ≡ trees.listing 31 (cellsView m) (layerView 31 v)
+  pub listing-view : listing m v ≡ layerListing 31 (cellsView m) (layerView 31 v)
   listing-view = sym (layer-listed m (right .cells-whole) 31 [] v (t .filed))
 
 -- ---- and back, where each node and each cell is right by itself
@@ -129,10 +129,10 @@ module _ (m : Memory) (sound : Sound m) where
 
   module _ (v : Layers) (t : ViewIsTree m (layerView 31 v)) where
     nodes-sum : (j : ℕ) → NodeBalanced m v j
-    nodes-sum j = sym (ap₂ _+_ (nodes-reached 31 v j) (ap (λ (ks : List ℕ). times ks j) (frees-view m sound))) ∙ t .nodes j
+    nodes-sum j = sym (ap₂ _+_ (nodes-reached 31 v j) (ap (λ (ks : List ℕ). timesIn ks j) (frees-view m sound))) ∙ t .nodes j
 
     cells-sum : (j : ℕ) → CellBalanced m v j
-    cells-sum j = sym (ap₂ _+_ (cells-reached 31 v j) (ap (λ (ks : List ℕ). times ks j) (free-cells-view m))) ∙ t .cells j
+    cells-sum j = sym (ap₂ _+_ (cells-reached 31 v j) (ap (λ (ks : List ℕ). timesIn ks j) (free-cells-view m))) ∙ t .cells j
 
     reached-once : (i : ℕ) → reached 31 v i ≤ 1
     reached-once i =
@@ -177,7 +177,7 @@ module _ (m : Memory) (sound : Sound m) where
           other-cells = cells-free;
         }
 
-  pub from-trees : (w : Lay 31) → ViewIsTree m w → (v : Layers) × IsTree m v × (layerView 31 v ≡ w)
+  pub from-trees : (w : Layered 31) → ViewIsTree m w → (v : Layers) × IsTree m v × (layerView 31 v ≡ w)
   from-trees w t =
       let (v, e) = layer-behind m (right-lengths .nodes-whole) sound 31 w (t .holds) in
       (v, from-view v (subst (ViewIsTree m) (sym e) t), e)

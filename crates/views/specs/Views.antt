@@ -1,8 +1,8 @@
 -- Lent memory as the trees have it. There an ikey is one more than its eight bytes, so that 0 stands left of all.
-use Prim.Native.Nat.{ℕ, zero, suc, _+_, _-_, _<_}
+use Prim.Native.Nat.{ℕ, zero, suc, _<_}
 use mathlib.Core.Path.{_≡_}
-use mathlib.Core.Bool.{Bool, true, false, _&&_, _||_}
-use mathlib.Core.Logic.{_⊎_, inl, inr}
+use mathlib.Core.Bool.{Bool, cond, _||_}
+use mathlib.Core.Logic.{inl, inr}
 use mathlib.Core.List.{List, [], _∷_, map}
 use mathlib.Core.Option.{Option, none, some}
 use lib.Dec.{eqb, T}
@@ -12,13 +12,12 @@ use Rattle.arena.specs.Memory.{Memory, nodeCount, cellCount, rightLengths}
 use Rattle.forest.specs.Nodes.{entriesAt, ikeysAt, childrenAt, leafRight, internodeRight, nodeFree}
 use Rattle.forest.specs.Cells.{cellRight, cellFree}
 use Rattle.forest.specs.Trees as words
-use Rattle.forest.specs.Trees.{choose, seenAs}
+use Rattle.forest.specs.Trees.{seenAs}
 use Rattle.forest.specs.Layers as layers
-use Rattle.trees.specs.Base.{Key, Node, free, leaf, inner, Mem}
-use Rattle.trees.specs.TreeA.{Tree}
-use Rattle.trees.specs.Top.{Tall}
-use Rattle.trees.specs.Cells.{Cells}
-use Rattle.trees.specs.Lays.{Ptr, cell, link, Val, Lay}
+use Rattle.trees.specs.Nodes.{IkeyClass, Node, free, leaf, internode, NodeList}
+use Rattle.trees.specs.Tree.{TreeOver}
+use Rattle.trees.specs.Cells.{CellList}
+use Rattle.trees.specs.Layers.{Pointer, cell, link, LayeredValue, Layered}
 
 -- f of n numbers from i on
 abbrev pub tabled : {A : Type 0} → (ℕ → A) → ℕ → ℕ → List A
@@ -26,44 +25,44 @@ tabled f i zero = []
 tabled f i (suc n) = f i ∷ tabled f (suc i) n
 
 -- an ikey and a class, and what an entry has
-abbrev pub keyView : words.Key → Key
+abbrev pub keyView : words.Key → IkeyClass
 keyView k = (suc (k .0), k .1)
 
-abbrev pub refView : words.Ref → Ptr
+abbrev pub refView : words.Ref → Pointer
 refView (words.cell c) = cell c
 refView (words.link n) = link n
 
-abbrev pub entryView : words.Key × words.Ref → Key × Ptr
+abbrev pub entryView : words.Key × words.Ref → IkeyClass × Pointer
 entryView e = (keyView (e .0), refView (e .1))
 
 -- node k: a leaf with its entries, an internode with its ikeys and children, or free
-unfoldable pub nodeView : List ℕ → ℕ → Node Ptr
+unfoldable pub nodeView : List ℕ → ℕ → Node Pointer
 nodeView nodes k =
-    choose (eqb (kindAt nodes k) 1) (leaf (map (λ e. entryView (seenAs e)) (entriesAt nodes k)))
-    (choose (eqb (kindAt nodes k) 2) (inner (map suc (ikeysAt nodes k)) (childrenAt nodes k)) free)
+    cond (eqb (kindAt nodes k) 1) (leaf (map (λ e. entryView (seenAs e)) (entriesAt nodes k)))
+    (cond (eqb (kindAt nodes k) 2) (internode (map suc (ikeysAt nodes k)) (childrenAt nodes k)) free)
 
-abbrev pub nodesView : Memory → Mem Ptr
+abbrev pub nodesView : Memory → NodeList Pointer
 nodesView m = tabled (nodeView (m .nodes)) 0 (nodeCount (length (m .nodes)))
 
 -- cell c: its key and its frame number, or nothing
 unfoldable pub cellView : List ℕ → List ℕ → ℕ → Option (List ℕ × ℕ)
-cellView cells bytes c = choose (eqb (markAt cells c) 0) none (some (keyAt cells bytes c, frameAt cells c))
+cellView cells bytes c = cond (eqb (markAt cells c) 0) none (some (keyAt cells bytes c, frameAt cells c))
 
-abbrev pub cellsView : Memory → Cells
+abbrev pub cellsView : Memory → CellList
 cellsView m = tabled (cellView (m .cells) (m .bytes)) 0 (cellCount (length (m .cells)))
 
 -- the tree of a layer, and the layers
-abbrev pub treeView : (h : ℕ) → words.Tree h → Tree Ptr h
+abbrev pub treeView : (h : ℕ) → words.Tree h → TreeOver Pointer h
 treeView zero t = (t .0, map entryView (t .1))
 treeView (suc h) t = (t .0, map (λ p. (p .0, treeView h (p .1))) (t .1))
 
-abbrev pub valueView : (l : ℕ) → layers.Value l → Val l
+abbrev pub valueView : (l : ℕ) → layers.Value l → LayeredValue l
 valueView zero c = c
 valueView (suc l) (inl c) = inl c
 valueView (suc l) (inr v) =
     inr ((v .0 .0, treeView (v .0 .0) (v .0 .1)), map (λ e. (keyView (e .0), valueView l (e .1))) (v .1))
 
-abbrev pub layerView : (l : ℕ) → layers.Layer l → Lay l
+abbrev pub layerView : (l : ℕ) → layers.Layer l → Layered l
 layerView l v = ((v .0 .0, treeView (v .0 .0) (v .0 .1)), map (λ e. (keyView (e .0), valueView l (e .1))) (v .1))
 
 -- What each node and each cell must be by itself, whatever is reached: in use and right, or free and zero.
