@@ -26,7 +26,7 @@ fn answer_part(
     let mut from = 0;
     let mut held = kept;
     while from < part.len() {
-        let taken = lines::input::take_line(&part[from..], line, held);
+        let taken = line_input::inside::take_line(&part[from..], line, held);
         from += taken.used;
         held = taken.kept;
         if taken.ended {

@@ -8,11 +8,11 @@ use lib.ListN.{length, getD, take, drop, length-append, length-drop}
 use lib.Seq.{length-take-le}
 use Rattle.arena.specs.Memory.{Memory}
 use Rattle.forest.specs.Walk.{isTree}
-use Rattle.text.specs.Shown.{refusedLine}
+use Rattle.page.specs.Shown.{refusedLine}
 use Rattle.text.proofs.Keys.{decide}
 use Rattle.arena.specs.Parts.{putPart}
 use Rattle.text.specs.Command.{Command}
-use Rattle.text.specs.Page.{Typed}
+use Rattle.page.specs.Page.{Typed}
 use Rattle.lines.specs.Answered.{listed, listing, printed, Answered, Room}
 use Rattle.lines.proofs.Replies.{refused-room}
 use Rattle.lines.proofs.Trees.{listing-fits}

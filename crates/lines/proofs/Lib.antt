@@ -2,6 +2,5 @@ pub mod Replies
 pub mod Listings
 pub mod Requests
 pub mod Parts
-pub mod Inputs
 pub mod Fits
 pub mod Trees

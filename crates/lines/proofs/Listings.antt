@@ -13,20 +13,20 @@ use borrow.Author.Tests.{ltb-true, ltb-false, lt-ltb, not-true, not-false}
 use Rattle.refusal.specs.declared.Refusal.{Refusal}
 use Rattle.refusal.specs.Refusals.{numberOf}
 use Rattle.refusal.specs.Answer.{Answer, accepted}
+use Rattle.refusal.proofs.Laws.{number-pos}
 use Rattle.arena.specs.Parts.{part}
 use Rattle.arena.specs.Layout.{keyAt, markAt, frameAt}
 use Rattle.arena.specs.Memory.{Memory}
 use Rattle.forest.specs.Walk.{isTree}
 use Rattle.model.specs.Calls.{kthSaid, inKeyOrder, entryOf}
-use Rattle.index.specs.declared.Listed.{Listed}
-use Rattle.index.specs.declared.Listed.the-variants as listed-is
+use Rattle.index_questions.specs.declared.Listed.{Listed}
+use Rattle.index_questions.specs.declared.Listed.the-variants as listed-is
 use Rattle.index.specs.Answers.{saidListed}
-use Rattle.text.specs.Shown.{headerLine, refusedLine, entryLine, decimal, keyShown}
-use Rattle.text.specs.Page.{Typed}
-use Rattle.text.proofs.Pages.{typed-none, typed-then, entry-length}
+use Rattle.page.specs.Shown.{headerLine, refusedLine, entryLine, decimal, keyShown}
+use Rattle.page.specs.Page.{Typed}
+use Rattle.page.proofs.Pages.{typed-none, typed-then, entry-length}
 use Rattle.text.proofs.Keys.{decide}
 use Rattle.lines.specs.Answered.{entryText, entryTexts, listing, listed, Room}
-use Rattle.lines.proofs.Replies.{positive}
 
 -- ---- the k-th entry of a tree
 
@@ -44,7 +44,7 @@ module _ (m : Memory) (k : ℕ) (tree : isTree m ≡ true) (x : Listed) (e : sai
       decide (ltb k (length (inKeyOrder m)))
       (λ t.
       let z = ap (λ (a : Answer). a .number) (sym (ap saidListed d) ∙ number-there (ltb-true _ _ t)) in
-      absurd (omega (arith, positive why)))
+      absurd (omega (arith, number-pos why)))
       (λ t. ltb-false _ _ t)
 
   pub kth-there : {c l f : ℕ} → x ≡ listed-is.Entry c l f → k < length (inKeyOrder m)

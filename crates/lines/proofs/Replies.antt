@@ -8,56 +8,27 @@ use lib.Dec.{eqb}
 use lib.ListN.{length, getD}
 use borrow.Author.Tests.{ne-eqb}
 use Rattle.refusal.specs.declared.Refusal.{Refusal}
-use Rattle.refusal.specs.declared.Refusal.the-variants.{
-  Width,
-  Word,
-  Node,
-  Position,
-  Full,
-  Unused,
-  Key,
-  Shift,
-  Order,
-  Memory as NoMemory,
-  Stored,
-  Missing,
-  Room as NoRoom,
-}
 use Rattle.refusal.specs.Refusals.{numberOf}
 use Rattle.refusal.specs.Answer.{Answer}
+use Rattle.refusal.proofs.Laws.{number-pos}
 use Rattle.arena.specs.Memory.{Memory, Did, did}
 use Rattle.model.specs.Calls.{putDone, findSaid, removed}
 use Rattle.index.specs.declared.Added.{Added}
 use Rattle.index.specs.declared.Added.the-variants as added-is
 use Rattle.index.specs.declared.Removed.{Removed}
 use Rattle.index.specs.declared.Removed.the-variants as removed-is
-use Rattle.index.specs.declared.Found.{Found}
-use Rattle.index.specs.declared.Found.the-variants as found-is
+use Rattle.index_questions.specs.declared.Found.{Found}
+use Rattle.index_questions.specs.declared.Found.the-variants as found-is
 use Rattle.index.specs.Answers.{saidAdded, saidRemoved, saidFound}
-use Rattle.text.specs.Shown.{decimal, okLine, refusedLine, numberLine}
+use Rattle.page.specs.Shown.{decimal, okLine, refusedLine, numberLine}
 use Rattle.text.specs.Command.{put, find, del}
-use Rattle.text.specs.Page.{Typed}
-use Rattle.text.proofs.Pages.{decimal-short, refused-length, number-length}
+use Rattle.page.specs.Page.{Typed}
+use Rattle.page.proofs.Pages.{decimal-short, refused-length, number-length}
 use Rattle.lines.specs.Answered.{Answered, printed, left, unlessRefused}
 
 -- a refusal's number is none of an accepted call
-pub positive : (why : Refusal) → 0 < numberOf why
-positive Width = omega arith
-positive Word = omega arith
-positive Node = omega arith
-positive Position = omega arith
-positive Full = omega arith
-positive Unused = omega arith
-positive Key = omega arith
-positive Shift = omega arith
-positive Order = omega arith
-positive NoMemory = omega arith
-positive Stored = omega arith
-positive Missing = omega arith
-positive NoRoom = omega arith
-
 not-zero : (why : Refusal) → eqb (numberOf why) 0 ≡ false
-not-zero why = ne-eqb (numberOf why) 0 (λ e. omega (arith, positive why))
+not-zero why = ne-eqb (numberOf why) 0 (λ e. omega (arith, number-pos why))
 
 -- ---- room
 

@@ -11,8 +11,8 @@ use Rattle.arena.specs.Memory.{Memory, memory}
 use Rattle.text.specs.declared.inside.Line.{Line}
 use Rattle.text.specs.declared.inside.Line.the-variants as line-is
 use Rattle.text.specs.Command.{Command, put, find, del, list, bad, heard, Heard, taken, keyOf, lineOf}
-use Rattle.text.specs.Shown.{badLine}
-use Rattle.text.specs.Page.{Typed}
+use Rattle.page.specs.Shown.{badLine}
+use Rattle.page.specs.Page.{Typed}
 use Rattle.lines.specs.Answered.{Answered, printed, left, listed}
 
 front : (b key : List ℕ) → take (length key) (putPart b 0 key) ≡ key

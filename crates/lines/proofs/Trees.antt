@@ -14,8 +14,8 @@ use Rattle.forest.specs.Walk.{isTree}
 use Rattle.forest.proofs.Accepts.{tree-found}
 use Rattle.model.specs.Calls.{inKeyOrder}
 use Rattle.views.proofs.Few.{few-255, keys-short}
-use Rattle.text.specs.Shown.{keyShown, headerLine}
-use Rattle.text.proofs.Pages.{decimal-short, hex-length, header-length, entry-length}
+use Rattle.page.specs.Shown.{keyShown, headerLine}
+use Rattle.page.proofs.Pages.{decimal-short, hex-length, header-length, entry-length}
 use Rattle.lines.specs.Answered.{entryText, entryTexts, listing}
 use Rattle.lines.proofs.Replies.{digits-room}
 

@@ -10,9 +10,9 @@ use Rattle.arena.specs.Layout.{keyAt, frameAt}
 use Rattle.arena.specs.Memory.{Memory, Did}
 use Rattle.forest.specs.Walk.{isTree}
 use Rattle.model.specs.Calls.{putDone, findSaid, removed, inKeyOrder}
-use Rattle.text.specs.Shown.{okLine, badLine, refusedLine, numberLine, headerLine, entryLine}
+use Rattle.page.specs.Shown.{okLine, badLine, refusedLine, numberLine, headerLine, entryLine}
 use Rattle.text.specs.Command.{Command, put, find, del, list, bad, read}
-use Rattle.text.specs.Page.{Typed}
+use Rattle.page.specs.Page.{Typed}
 
 -- a text for an accepted call, `refused N` for any other
 unfoldable pub unlessRefused : Answer → List ℕ → List ℕ

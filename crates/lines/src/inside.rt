@@ -8,8 +8,8 @@ ghost use Rattle.arena.specs.Parts.{part};
 ghost use Rattle.arena.specs.Memory.{memory};
 ghost use Rattle.forest.specs.Walk.{isTree};
 ghost use Rattle.model.specs.Calls.{inKeyOrder};
-ghost use Rattle.text.specs.Page.{Typed};
-ghost use Rattle.text.specs.Shown.{refusedLine};
+ghost use Rattle.page.specs.Page.{Typed};
+ghost use Rattle.page.specs.Shown.{refusedLine};
 ghost use Rattle.text.specs.Command.{read};
 ghost use Rattle.text.specs.Command.{put as Command·put, find as Command·find, del as Command·del};
 ghost use Rattle.lines.specs.Answered.{Answered, printed, listed, entryTexts, Room};
@@ -25,7 +25,7 @@ fn refused(out: &mut [u8], why: Refusal) -> usize
     requires { ⌜ 100 ≤ length (now out) ⌝ }
     ensures { λ r. ⌜ Typed (now (out .entry)) 0 (refusedLine (numberOf why)) r (now (out .exit)) ⌝ }
 {
-    text::printed::refused(out, 0, refusal::number(why))
+    page::inside::refused(out, 0, refusal::number(why))
 }
 
 // Puts a key and prints `ok`, or the refusal.
@@ -44,7 +44,7 @@ fn put(
     if let Added::Refused(why) = answer {
         return refused(out, why);
     }
-    text::printed::ok(out, 0)
+    page::inside::ok(out, 0)
 }
 
 // Takes a key out and prints `ok`, or the refusal.
@@ -56,7 +56,7 @@ fn del(nodes: &mut [u64], cells: &mut [u64], bytes: &mut [u8], key: &[u8], out: 
     if let Removed::Refused(why) = answer {
         return refused(out, why);
     }
-    text::printed::ok(out, 0)
+    page::inside::ok(out, 0)
 }
 
 // Prints the frame number of a key, or the refusal.
@@ -66,7 +66,7 @@ fn find(nodes: &[u64], cells: &[u64], bytes: &[u8], key: &[u8], out: &mut [u8]) 
 {
     let answer = index::find(nodes, cells, bytes, key);
     match answer {
-        Found::Frame(frame) => text::printed::number(out, 0, frame),
+        Found::Frame(frame) => page::inside::number(out, 0, frame),
         Found::Refused(why) => refused(out, why),
     }
 }
@@ -118,7 +118,7 @@ fn entries(nodes: &[u64], cells: &[u64], bytes: &[u8], n: u64, out: &mut [u8], a
             length,
             frame,
         } = answer {
-            next = text::printed::entry(out, next, key_in(bytes, cell, length), frame);
+            next = page::inside::entry(out, next, key_in(bytes, cell, length), frame);
             k += 1;
             continue;
         }
@@ -136,7 +136,7 @@ fn list(nodes: &[u64], cells: &[u64], bytes: &[u8], out: &mut [u8]) -> usize
         return refused(out, Refusal::Memory);
     }
     let n = count(nodes, cells, bytes, out.len() as u64);
-    let next = text::printed::header(out, 0, n);
+    let next = page::inside::header(out, 0, n);
     entries(nodes, cells, bytes, n, out, next)
 }
 
@@ -158,6 +158,6 @@ pub fn answer(
         Line::Find { len } => find(nodes, cells, bytes, &key[..len], out),
         Line::Del { len } => del(nodes, cells, bytes, &key[..len], out),
         Line::List => list(nodes, cells, bytes, out),
-        Line::Bad => text::printed::bad_line(out, 0),
+        Line::Bad => page::inside::bad_line(out, 0),
     }
 }

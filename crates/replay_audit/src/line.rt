@@ -1,7 +1,6 @@
 // One recorded line: what to do to the memory, and what the audit says to it. 28 bytes: an operation, a slice, an index of eight hex
 // digits, a value of sixteen, the verdict and a line feed. tests/README.md says how the list was made.
 ghost use Prim.Native.Nat.{_<_};
-use crate::hex;
 use crate::pace;
 use audit::Audited;
 

@@ -1,7 +1,6 @@
 // One recorded call on the index, at fixed places of a line of 570 bytes: the call, its number, a frame number, another number, the sum of
 // the memory after it, the length of a key and the key. tests/calls.py makes such lines and says which is which.
 ghost use Prim.Native.Nat.{_≤_};
-use crate::hex;
 use crate::sum;
 use arena::Cleared;
 use index::Added;

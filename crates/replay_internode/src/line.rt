@@ -5,41 +5,15 @@ ghost use Prim.Native.Nat.{_+_, _≤_, _<_};
 use crate::asked;
 use internode::Internode;
 
-// The value of a hex digit. Any other byte counts as 0.
-fn digit(byte: u8) -> u64
-    ensures { λ r. ⌜ r < 16 ⌝ }
-{
-    if byte < b'0' {
-        return 0;
-    }
-    if byte <= b'9' {
-        return (byte - b'0') as u64;
-    }
-    if byte < b'a' {
-        return 0;
-    }
-    if byte <= b'f' {
-        return (byte - b'a' + 10) as u64;
-    }
-    0
-}
-
 // Field i of the line.
-fn field(text: &[u8; 1190], i: usize) -> u64
+fn field(text: &[u8], i: usize) -> u64
     requires { ⌜ i < 70 ⌝ }
 {
-    let from = 17 * i;
-    let mut value: u64 = 0;
-    let mut k: usize = 0;
-    while k < 16 {
-        value = (value << 4u32) | digit(text[from + k]);
-        k += 1;
-    }
-    value
+    hex::sixteen(text, 17 * i)
 }
 
 // The node whose n is field i, and whose ikeys and children follow.
-fn node_at(text: &[u8; 1190], i: usize) -> Internode
+fn node_at(text: &[u8], i: usize) -> Internode
     requires { ⌜ i + 32 ≤ 70 ⌝ }
 {
     let mut ikeys = [0u64; 15];
@@ -83,7 +57,7 @@ fn same(a: Internode, b: Internode) -> bool
 }
 
 // Whether the port says to the recorded call what the line says.
-pub(crate) fn agrees(text: &[u8; 1190]) -> bool {
+pub(crate) fn agrees(text: &[u8]) -> bool {
     let given = node_at(text, 6);
     let call = field(text, 0);
     let p = field(text, 2) as usize;

@@ -3,39 +3,15 @@
 mod answers;
 mod record;
 
-use record::agrees;
-
-fn mismatch(n: u64) {
-    io::print_decimal(1, n);
-    io::write_all(1, b": mismatch\n");
-}
-
-fn total(cases: u64, wrong: u64) {
-    io::print_decimal(1, cases);
-    io::write_all(1, b" cases, ");
-    io::print_decimal(1, wrong);
-    io::write_all(1, b" mismatches\n");
-}
-
-// The next record, and whether there was one.
-fn next(rec: &mut [u8]) -> bool {
-    64 <= io::read_full(0, rec)
-}
-
+// Replays every record. No list is so long that the count of cases ends it.
 fn main() {
-    let mut space = [0u8; 64];
-    let rec: &mut [u8] = &mut space;
-    let mut cases: u64 = 0;
-    let mut wrong: u64 = 0;
-    while cases < 1_000_000 {
-        if !next(rec) {
+    let mut tally = tally::none();
+    while tally.answers < u64::MAX {
+        let mut rec = [0u8; 64];
+        if !tally::next(&mut rec) {
             break;
         }
-        if !agrees(rec) {
-            mismatch(cases);
-            wrong = std::num::wrapping_add_u64(wrong, 1);
-        }
-        cases += 1;
+        tally = tally::counted(tally, record::agrees(&rec), b"\n");
     }
-    total(cases, wrong);
+    tally::tell(tally, b"cases");
 }

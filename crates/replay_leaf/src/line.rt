@@ -1,7 +1,6 @@
 // One recorded search: the numbers of the answer, the word, the key, the entries and the cells, at fixed places of a line.
 // oracle/leaf/README.md says which.
 ghost use Prim.Native.Nat.{_<_};
-use crate::hex;
 use leaf::Entry;
 use leaf::Searched;
 

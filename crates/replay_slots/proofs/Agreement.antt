@@ -5,8 +5,9 @@ use mathlib.Core.Bool.{Bool, true, false}
 use mathlib.Core.List.{List}
 use lib.Dec.{eqb}
 use borrow.Author.Tests.{eq-eqb, ne-eqb}
+use Rattle.hex.specs.Digits.{hexAt}
 use Rattle.replay_slots.specs.declared.asked.Said.{Said}
-use Rattle.replay_slots.specs.Lines.{hexAt, replayedOf, agreed}
+use Rattle.replay_slots.specs.Lines.{replayedOf, agreed}
 
 module _ (text : List ℕ) {said : Said} {number : ℕ} where
   pub number-differs : said ≡ replayedOf text → number ≡ hexAt text 4 1 → (said .number ≡ number → ⊥) →

@@ -1,3 +1,2 @@
 mod Says
-mod Fields
 mod Agreement

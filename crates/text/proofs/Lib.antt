@@ -1,6 +1,5 @@
 pub mod Splits
 pub mod Keys
 pub mod Frames
-pub mod Pages
 pub mod Wishes
 pub mod Lines

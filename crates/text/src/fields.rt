@@ -49,6 +49,7 @@ fn is_hex(b: u8) -> bool
     b <= b'f'
 }
 
+// The value of a hex digit.
 fn hex_value(b: u8) -> u8
     requires { ⌜ isHex b ≡ true ⌝ }
     ensures { λ r. ⌜ (r ≡ hexValue b) × (r < 16) ⌝ }

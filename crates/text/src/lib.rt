@@ -1,7 +1,6 @@
-// The words of the program: a line read, and the lines that are printed. Everything stands on slices that the caller lends.
+// One line read: what it asks for. Everything stands on slices that the caller lends.
 mod fields;
 pub mod inside;
-pub mod printed;
 
 ghost use mathlib.Core.Path.{_≡_};
 ghost use Prim.Native.Nat.{_≤_};

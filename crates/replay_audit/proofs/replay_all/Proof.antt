@@ -1,19 +1,17 @@
--- `replay_audit::replay_all` is safe and ends: no more lines differ than were replayed, no more were replayed than read, and that count
--- rises; the slices keep their lengths. Assumes nothing.
+-- `replay_all` is safe and ends: the count of lines rises, and the slices keep their lengths. Assumes nothing.
 use borrow.Author.Needs.{needs}
 use mathlib.Core.Path.{_≡_}
-use Prim.Native.Nat.{_-_, _≤_}
+use Prim.Native.Nat.{_-_}
 use lib.ListN.{length}
 use Rattle.replay_audit.proofs.replay_all.Statement.{statement}
 use Rattle.replay_audit.proofs.replay_all.Tie as tie
 
 abbrev Inv-loop : tie.InvT-loop
-Inv-loop nodes₀ cells₀ bytes₀ verdicts₀ mismatches₀ lines₀ lengths₀ nodes cells bytes verdicts mismatches lines lengths =
-    (mismatches ≤ verdicts) × (verdicts ≤ lines) × (length nodes ≡ length nodes₀) × (length cells ≡ length cells₀) × (length bytes ≡ length bytes₀)
+Inv-loop nodes₀ cells₀ bytes₀ tally₀ lines₀ lengths₀ nodes cells bytes tally lines lengths =
+    (length nodes ≡ length nodes₀) × (length cells ≡ length cells₀) × (length bytes ≡ length bytes₀)
 
 abbrev μ-loop : tie.MeasureT-loop
-μ-loop nodes₀ cells₀ bytes₀ verdicts₀ mismatches₀ lines₀ lengths₀ nodes cells bytes verdicts mismatches lines lengths =
-    18446744073709551615 - lines
+μ-loop nodes₀ cells₀ bytes₀ tally₀ lines₀ lengths₀ nodes cells bytes tally lines lengths = 18446744073709551615 - lines
 
 pub replay-all-spec : {M : Type 1} → statement M
 replay-all-spec =
@@ -21,27 +19,20 @@ replay-all-spec =
     (tie.spec
     Inv-loop
     μ-loop
-    (λ c. search needs)
-    (λ c. search needs)
     (λ c κs. search needs)
     (λ c. search needs)
     (λ c. search needs)
     (λ c κs. search needs)
     (λ c. search needs)
+    (λ c. search needs)
+    (λ c κs. search needs)
+    (λ c. search needs)
     (λ c κs. search needs)
     (λ c κs. search needs)
     (λ c. search needs)
     (λ c. search needs)
     (λ c. search needs)
     (λ c κs. search needs)
-    (λ c. search needs)
-    (λ c. search needs)
-    (λ c. search needs)
-    (λ c. search needs)
-    (λ c. search needs)
-    (λ c. search needs)
-    (λ c. search needs)
-    (λ c. search needs)
     (λ c. search needs)
     (λ c. search needs)
     (λ c. search needs)

@@ -1,18 +1,17 @@
--- `replay_index::replay_all` is safe and ends: no more lines differ than were replayed, and that count rises; the slices keep their
--- lengths. Assumes nothing.
+-- `replay_all` is safe and ends: the count of lines rises, and the slices keep their lengths. Assumes nothing.
 use borrow.Author.Needs.{needs}
 use mathlib.Core.Path.{_≡_}
-use Prim.Native.Nat.{_-_, _≤_}
+use Prim.Native.Nat.{_-_}
 use lib.ListN.{length}
 use Rattle.replay_index.proofs.replay_all.Statement.{statement}
 use Rattle.replay_index.proofs.replay_all.Tie as tie
 
 abbrev Inv-loop : tie.InvT-loop
-Inv-loop nodes₀ cells₀ bytes₀ lines₀ mismatches₀ n₀ c₀ t9 nodes cells bytes lines mismatches n c =
-    (mismatches ≤ lines) × (length nodes ≡ length nodes₀) × (length cells ≡ length cells₀) × (length bytes ≡ length bytes₀)
+Inv-loop nodes₀ cells₀ bytes₀ tally₀ n₀ c₀ nodes cells bytes tally n c =
+    (length nodes ≡ length nodes₀) × (length cells ≡ length cells₀) × (length bytes ≡ length bytes₀)
 
 abbrev μ-loop : tie.MeasureT-loop
-μ-loop nodes₀ cells₀ bytes₀ lines₀ mismatches₀ n₀ c₀ t9 nodes cells bytes lines mismatches n c = 18446744073709551615 - lines
+μ-loop nodes₀ cells₀ bytes₀ tally₀ n₀ c₀ nodes cells bytes tally n c = 18446744073709551615 - tally .answers
 
 pub replay-all-spec : {M : Type 1} → statement M
 replay-all-spec =
@@ -20,8 +19,6 @@ replay-all-spec =
     (tie.spec
     Inv-loop
     μ-loop
-    (λ c. search needs)
-    (λ c. search needs)
     (λ c κs. search needs)
     (λ c. search needs)
     (λ c. search needs)
@@ -30,12 +27,11 @@ replay-all-spec =
     (λ c κs. search needs)
     (λ c. search needs)
     (λ c κs. search needs)
-    (λ c κs. search needs)
-    (λ c. search needs)
-    (λ c. search needs)
     (λ c. search needs)
     (λ c κs. search needs)
+    (λ c κs. search needs)
     (λ c. search needs)
+    (λ c κs. search needs)
     (λ c. search needs)
     (λ c. search needs)
     (λ c. search needs)

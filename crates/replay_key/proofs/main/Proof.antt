@@ -1,14 +1,14 @@
--- `replay_key::main` is safe and ends: it reads at most a million records. Assumes nothing.
-use Prim.Native.Nat.{_≤_, _-_}
+-- `main` is safe and ends: the count of answers rises. Assumes nothing.
 use borrow.Author.Needs.{needs}
+use Prim.Native.Nat.{_-_}
 use Rattle.replay_key.proofs.main.Statement.{statement}
 use Rattle.replay_key.proofs.main.Tie as tie
 
 abbrev Inv-loop : tie.InvT-loop
-Inv-loop rec₀ cases₀ wrong₀ rec cases wrong = cases ≤ 1000000
+Inv-loop tally₀ feed rec tally = Unit
 
 abbrev μ-loop : tie.MeasureT-loop
-μ-loop rec₀ cases₀ wrong₀ rec cases wrong = 1000000 - cases
+μ-loop tally₀ feed rec tally = 18446744073709551615 - tally .answers
 
 pub main-spec : {M : Type 1} → statement M
 main-spec =
@@ -16,11 +16,13 @@ main-spec =
     (tie.spec
     Inv-loop
     μ-loop
+    (λ c κs. search needs)
     (λ c. search needs)
     (λ c. search needs)
     (λ c κs. search needs)
+    (λ c. search needs)
     (λ c κs. search needs)
-    (λ c κs. search needs)
+    (λ c. search needs)
     (λ c κs. search needs)
     (λ c. search needs)
     (λ c. search needs)

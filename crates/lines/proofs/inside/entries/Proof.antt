@@ -3,7 +3,7 @@ use borrow.Author.Needs.{needs}
 use Prim.Native.Nat.{_-_, _≤_}
 use mathlib.Core.Path.{_≡_, refl}
 use lib.ListN.{length, take}
-use Rattle.text.specs.Page.{Typed}
+use Rattle.page.specs.Page.{Typed}
 use Rattle.lines.specs.Answered.{entryTexts}
 use Rattle.arena.specs.Memory.{memory}
 use Rattle.model.specs.Calls.{inKeyOrder}

@@ -1,0 +1,2 @@
+// The lines of an input that comes in parts.
+pub mod inside;

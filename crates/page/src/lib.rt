@@ -1,0 +1,2 @@
+// The lines that are printed, on slices that the caller lends.
+pub mod inside;
