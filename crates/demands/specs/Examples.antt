@@ -10,7 +10,7 @@ use Rattle.order.specs.Bytes.{bytewise}
 use Rattle.order.specs.Layer.{bigEndian, ikeyAt}
 use Rattle.ikey.specs.Said.{compareKeysSaid}
 use Rattle.key.specs.Keys.{numbersAt, newSaid}
-use Rattle.internode.specs.declared.Internode.{Internode}
+use Rattle.internode_places.specs.declared.Internode.{Internode}
 use Rattle.internode.specs.Lists.{rising, first}
 use Rattle.internode.specs.Node.{good}
 use Rattle.internode.specs.Split.{nodeOf}
