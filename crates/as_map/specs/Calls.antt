@@ -15,6 +15,7 @@ use Rattle.arena.specs.Memory.{Memory}
 use Rattle.forest.specs.Walk.{isTree}
 use Rattle.model.specs.Calls.{nodesOf, cellsOf, stored, needed, findSaid, kthSaid, removed, putDone, hasRoom}
 
+-- a call after a clear, with its key and frame number, or its k
 pub data Call : Type 0 where
   put : List ℕ → ℕ → Call
   find remove : List ℕ → Call

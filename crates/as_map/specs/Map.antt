@@ -11,6 +11,7 @@ use Rattle.order.specs.Map.{Map}
 use Rattle.arena.specs.Memory.{Memory}
 use Rattle.as_map.specs.Calls.{Call, put, find, remove, kth, Heard, done, frame, entry, refused, left, roomFor}
 
+-- f of the value that is there, else z
 abbrev pub whether : {A B : Type 0} → B → (A → B) → Option A → B
 whether z f none = z
 whether z f (some a) = f a

@@ -18,6 +18,7 @@ use Rattle.audit.specs.declared.Audited.the-variants as audited-is
 unfoldable pub audited : Memory → Answer
 audited m = answered ((10 unless isTree m) ∷ []) [] []
 
+-- 0, or 10
 abbrev pub saidAudited : Audited → Answer
 saidAudited audited-is.Tree = accepted []
 saidAudited (audited-is.Refused why) = refused why []
@@ -26,6 +27,7 @@ saidAudited (audited-is.Refused why) = refused why []
 unfoldable pub nodeLeft : List ℕ → Seen → ℕ → Bool
 nodeLeft nodes seen k = eqb (getD seen (nodeNo k) 0) 1 || nodeFree nodes k
 
+-- a cell was seen, or is free
 unfoldable pub cellLeft : List ℕ → List ℕ → Seen → ℕ → Bool
 cellLeft cells bytes seen c = eqb (getD seen (cellNo c) 0) 1 || cellFree cells bytes c
 

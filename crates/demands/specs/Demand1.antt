@@ -128,6 +128,7 @@ pub internode-children : (x : Internode) (target : ℕ)
 unfolding childSaid listedAbove
 internode-children x target = as-ruled tt
 
+-- what an insertion needs: 3, 4, 5 and 9
 abbrev pub insertRules : Internode → ℕ → ℕ → List Rule
 insertRules x p ikey =
     (3 unless good x) ∷ (4 unless leb p (x .n)) ∷ (5 unless ltb (x .n) 15) ∷ (9 unless rising (insertedAt p ikey (keysOf x))) ∷ []
@@ -188,6 +189,7 @@ pub finds : (m : Memory) (key : List ℕ) → AsRuled (findRules m key) (index.f
 unfolding index.findSaid listedAbove
 finds m key = as-ruled tt
 
+-- what k-th needs: 10 and 12
 abbrev pub kthRules : Memory → ℕ → List Rule
 kthRules m k = (10 unless isTree m) ∷ (12 unless ltb k (length (index.inKeyOrder m))) ∷ []
 

@@ -25,6 +25,7 @@ pub record Example : Type 0 where
   pub ours : Answer
   pub theirs : Answer
 
+-- the call is accepted with these values
 abbrev pub _gives_ : Answer → List ℕ → Example
 a gives values = record { ours = a; theirs = accepted values }
 
@@ -32,6 +33,7 @@ a gives values = record { ours = a; theirs = accepted values }
 abbrev pub tenTwentyThirty : Internode
 tenTwentyThirty = nodeOf (10 ∷ 20 ∷ 30 ∷ []) (1 ∷ 2 ∷ 3 ∷ 4 ∷ [])
 
+-- P1 to P11
 abbrev pub table : List Example
 table =
     -- P1: the empty word of width 15

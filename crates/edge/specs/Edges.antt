@@ -8,5 +8,6 @@ use Rattle.edge.specs.declared.Edge.{Edge}
 abbrev pub leftOf : Edge → ℕ
 leftOf e = cond (e .known) (suc (e .ikey)) leftmost
 
+-- the right edge as a number
 abbrev pub rightOf : Edge → ℕ
 rightOf e = cond (e .known) (suc (e .ikey)) rightmost

@@ -41,6 +41,7 @@ reachedBy zero c i = once (cellNo c) i
 reachedBy (suc l) (inl c) i = once (cellNo c) i
 reachedBy (suc l) (inr v) i = nodesOf (v .0 .0) (v .0 .1) i + total (λ e. reachedBy l (e .1) i) (v .1)
 
+-- how often a layer reaches number i
 abbrev pub reached : (l : ℕ) → Layer l → ℕ → ℕ
 reached l v i = nodesOf (v .0 .0) (v .0 .1) i + total (λ e. reachedBy l (e .1) i) (v .1)
 
@@ -53,6 +54,7 @@ HeldBy nodes (suc l) (inr v) =
     × (entriesOf (v .0 .0) (v .0 .1) ≡ map (λ e. (e .0, refOf l (e .1))) (v .1))
     × All (λ e. HeldBy nodes l (e .1)) (v .1)
 
+-- memory has a layer: its tree, and behind each entry what it refers to
 abbrev pub Held : List ℕ → (l : ℕ) → Layer l → Type 0
 Held nodes l v =
     Holds nodes (v .0 .0) (v .0 .1)
@@ -66,6 +68,7 @@ InEdgesBy (suc l) (inl c) = Unit {0}
 InEdgesBy (suc l) (inr v) =
     Bounded (v .0 .0) leftmost rightmost (v .0 .1) × All (λ e. InEdgesBy l (e .1)) (v .1)
 
+-- every tree of a layer and of those below it keeps its bounds
 abbrev pub InEdges : (l : ℕ) → Layer l → Type 0
 InEdges l v = Bounded (v .0 .0) leftmost rightmost (v .0 .1) × All (λ e. InEdgesBy l (e .1)) (v .1)
 
@@ -76,6 +79,7 @@ FiledBy cells bytes (suc l) above k (inl c) = T (filed cells bytes above (k .0) 
 FiledBy cells bytes (suc l) above k (inr v) =
     All (λ e. FiledBy cells bytes l (above ++ k .0 ∷ []) (e .0) (e .1)) (v .1)
 
+-- every cell of a layer has the key that the links above and its own entry say
 abbrev pub Filed : List ℕ → List ℕ → (l : ℕ) → List ℕ → Layer l → Type 0
 Filed cells bytes l above v = All (λ e. FiledBy cells bytes l above (e .0) (e .1)) (v .1)
 
@@ -85,5 +89,6 @@ listedBy cells bytes zero c = (keyAt cells bytes c, frameAt cells c) ∷ []
 listedBy cells bytes (suc l) (inl c) = (keyAt cells bytes c, frameAt cells c) ∷ []
 listedBy cells bytes (suc l) (inr v) = flattened (λ e. listedBy cells bytes l (e .1)) (v .1)
 
+-- the keys and frame numbers of a layer, in order
 abbrev pub listed : List ℕ → List ℕ → (l : ℕ) → Layer l → List (List ℕ × ℕ)
 listed cells bytes l v = flattened (λ e. listedBy cells bytes l (e .1)) (v .1)

@@ -44,6 +44,7 @@ restAt nodes k = map (entryAt nodes k) (notInUse (slotsAt nodes k))
 abbrev pub ofClass : Entry → Bool
 ofClass e = leb (e .class) 10
 
+-- an entry of zeros
 abbrev pub isZero : Entry → Bool
 isZero e = eqb (e .ikey) 0 && (eqb (e .class) 0 && eqb (e .at) 0)
 
@@ -64,6 +65,7 @@ countAt nodes k = wordAt nodes k 1
 unfoldable pub ikeysAt : List ℕ → ℕ → List ℕ
 ikeysAt nodes k = part nodes (nodeStart k + 2) (countAt nodes k)
 
+-- the children of an internode, one more than its ikeys
 unfoldable pub childrenAt : List ℕ → ℕ → List ℕ
 childrenAt nodes k = part nodes (nodeStart k + 17) (countAt nodes k + 1)
 

@@ -40,9 +40,11 @@ entriesOf (suc h) t = flattened (λ p. entriesOf h (p .1)) (t .1)
 
 -- ---- counting: nodes and cells in one row of numbers, node k as 2k, cell c as 2c + 1
 
+-- the number of node k in that row
 abbrev pub nodeNo : ℕ → ℕ
 nodeNo k = 2 * k
 
+-- the number of cell c in that row
 abbrev pub cellNo : ℕ → ℕ
 cellNo c = 2 * c + 1
 
@@ -58,6 +60,7 @@ nodesOf (suc h) t i = once (nodeNo (t .0)) i + total (λ p. nodesOf h (p .1) i) 
 -- ---- memory has the tree: each number is that of a leaf with these entries, or of an internode with these children, the left
 -- edges of all but the first being its ikeys
 
+-- memory has the tree of this height
 abbrev pub Holds : List ℕ → (h : ℕ) → Tree h → Type 0
 Holds nodes zero t = T (leafRight nodes (t .0)) × (map seenAs (entriesAt nodes (t .0)) ≡ t .1)
 Holds nodes (suc h) t =
@@ -68,9 +71,11 @@ Holds nodes (suc h) t =
 
 -- ---- bounds: an edge is an ikey and one; 0 where nothing is to the left, 2^64 + 1 where nothing is to the right
 
+-- the edge where nothing is to the left
 abbrev pub leftmost : ℕ
 leftmost = 0
 
+-- the edge where nothing is to the right
 abbrev pub rightmost : ℕ
 rightmost = suc (2 ^ 64)
 

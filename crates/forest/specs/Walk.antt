@@ -19,6 +19,7 @@ use Rattle.forest.specs.Trees.{Key, Ref, cell, link, seenAs, nodeNo, cel
 abbrev pub Seen : Type 0
 Seen = List ℕ
 
+-- a step of the walk: the numbers seen after it, or nothing where it refuses
 abbrev pub Step : Type 0
 Step = Seen → Option Seen
 
@@ -27,6 +28,7 @@ abbrev pub when : {A : Type 0} → Bool → Option A → Option A
 when true o = o
 when false o = none
 
+-- one step after the other, unless the first refuses
 abbrev pub andThen : {A : Type 0} → Option A → (A → Option A) → Option A
 andThen none f = none
 andThen (some x) f = f x
@@ -48,6 +50,7 @@ walkRef below m above k (cell c) seen =
     when (filed (m .cells) (m .bytes) above (k .0) (k .1) c) (see (cellNo c) seen)
 walkRef below m above k (link root) seen = below (above ++ k .0 ∷ []) root seen
 
+-- the entry lies at or above the left edge and below the right one
 abbrev pub within : ℕ → ℕ → Key × Ref → Bool
 within lo hi e = leb lo (suc (e .0 .0)) && ltb (suc (e .0 .0)) hi
 
@@ -61,11 +64,13 @@ walkEntry ref lo hi e seen = when (within lo hi e) (ref (e .0) (e .1) seen)
 abbrev pub Span : Type 0
 Span = ℕ × ℕ × ℕ
 
+-- each child with the edges between which it lies
 unfoldable pub spans : ℕ → ℕ → List ℕ → List ℕ → List Span
 spans lo hi ks [] = []
 spans lo hi [] (c ∷ cs) = (lo, hi, c) ∷ []
 spans lo hi (k ∷ ks) (c ∷ cs) = (lo, suc k, c) ∷ spans (suc k) hi ks cs
 
+-- a child is walked where its edges strictly rise
 unfoldable pub walkSpan : (ℕ → ℕ → ℕ → Step) → Span → Step
 walkSpan node s seen = when (ltb (s .0) (s .1)) (node (s .0) (s .1) (s .2) seen)
 
@@ -111,6 +116,7 @@ restFree m seen =
     allBelow (nodeCount (length (m .nodes))) (λ k. eqb (getD seen (nodeNo k) 0) 1 || nodeFree (m .nodes) k)
     && allBelow (cellCount (length (m .cells))) (λ c. eqb (getD seen (cellNo c) 0) 1 || cellFree (m .cells) (m .bytes) c)
 
+-- the walk refused nothing, and all that it left unseen is free
 abbrev pub walkedWell : Memory → Option Seen → Bool
 walkedWell m none = false
 walkedWell m (some seen) = restFree m seen

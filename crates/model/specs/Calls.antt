@@ -24,6 +24,7 @@ use Rattle.model.specs.Grow.{Label, entryFor, layerGrown, layersGrown}
 abbrev pub nodesOf : Memory → ℕ
 nodesOf m = nodeCount (length (m .nodes))
 
+-- how many cells are lent
 abbrev pub cellsOf : Memory → ℕ
 cellsOf m = cellCount (length (m .cells))
 
@@ -31,6 +32,7 @@ cellsOf m = cellCount (length (m .cells))
 abbrev pub place : Memory → List ℕ → Met
 place m key = meet 31 m key 0 0 (rootOf (m .nodes))
 
+-- the place of a stored key
 abbrev pub isStored : Met → Bool
 isStored (Stored leaf position cell) = true
 isStored (Conflict leaf position cell links) = false
@@ -80,6 +82,7 @@ without m (Stored leaf position cell) =
 without m (Conflict leaf position cell links) = m
 without m (Missing holder root links) = m
 
+-- memory after an accepted call; a refused one leaves it as it was
 abbrev pub whenAccepted : Answer → Memory → Memory → Memory
 whenAccepted a after before = cond (eqb (a .number) 0) after before
 
@@ -87,6 +90,7 @@ whenAccepted a after before = cond (eqb (a .number) 0) after before
 abbrev pub removeSaid : Memory → List ℕ → Answer
 removeSaid m key = answered (keyRules m key ((12 unless stored m key) ∷ [])) [] []
 
+-- what remove answers, and the memory that it leaves
 unfoldable pub removed : Memory → List ℕ → Did
 removed m key = did (removeSaid m key) (whenAccepted (removeSaid m key) (without m (place m key)) m)
 
@@ -100,6 +104,7 @@ neededAt m key (Conflict leaf position cell links) =
 neededAt m key (Missing holder root links) =
     needIn (m .nodes) (heightAt (m .nodes) 255 root) root (entryFor key 0 links .ikey) 1
 
+-- the nodes that a put of this key needs
 abbrev pub needed : Memory → List ℕ → ℕ
 needed m key = neededAt m key (place m key)
 
@@ -137,5 +142,6 @@ with m key frame =
 abbrev pub putSaid : Memory → List ℕ → Answer
 putSaid m key = answered (keyRules m key ((11 unless not (stored m key)) ∷ (13 unless hasRoom m key) ∷ [])) [] []
 
+-- what put answers, and the memory that it leaves
 unfoldable pub putDone : Memory → List ℕ → ℕ → Did
 putDone m key frame = did (putSaid m key) (whenAccepted (putSaid m key) (with m key frame) m)
