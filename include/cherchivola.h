@@ -29,8 +29,9 @@ enum {
 };
 
 /*
- * Slot words. Bits 0-3 hold the size, position i (0 to width-1) sits at bits 4i+4 to 4i+7. Positions below the size are
- * in use, the others are free; each slot from 0 to width-1 stands at one position, and all higher bits are 0.
+ * Slot words. The lowest four bits are the size, the next four the slot at position 0, and so on up to position width-1;
+ * the bits above are 0. The first `size` positions are in use, the others are free, and each slot from 0 to width-1 stands
+ * at one position.
  */
 
 /* Words made anew. Refused: 1, and make_sorted 4 for n over the width. */
@@ -63,8 +64,8 @@ uint64_t cherchivola_insert_from_back(uint64_t *word, size_t width, size_t i, si
 uint64_t cherchivola_remove_slot(uint64_t *word, size_t width, size_t slot);
 
 /*
- * Keys. The ikey at an offset: the next eight bytes, the first one highest, zero-filled at the end; past the end it is 0.
- * Never refused: `bytes` points to `len` bytes, and any offset is taken.
+ * Keys. The ikey at an offset: eight bytes from there on as one number, the first byte highest; bytes behind the last count
+ * as 0. Never refused: `bytes` points to `len` bytes, and any offset is taken.
  */
 uint64_t cherchivola_read_ikey(const uint8_t *bytes, size_t len, size_t offset);
 

@@ -15,6 +15,5 @@ pub use Rattle.lent_nodes.proofs.Nodes.{
   leaf-stored,
   internode-stored,
   node-freed,
-  root-set,
   word-loaded,
 }

@@ -1,28 +1,12 @@
 -- An answer is known by what it says: each contract leaves one outcome. Assumes nothing.
 use mathlib.Core.Path.{_≡_, refl, sym, ap, ap₂, _∙_}
-use Prim.Native.Nat.{ℕ}
-use native.Mathlib.Omega.{arith}
-use lib.ListN.{getD}
-use Rattle.refusal.specs.Answer.{Answer}
-use Rattle.refusal.specs.declared.Refusal.{Refusal}
-use Rattle.refusal.specs.Refusals.{numberOf}
-use Rattle.refusal.proofs.Laws.{number-one, number-pos}
+use Rattle.refusal.proofs.Laws.{number-one}
+use Rattle.refusal.proofs.One.{number-of, value-of, differ}
 use Rattle.arena.specs.declared.Measured.{Measured}
 use Rattle.arena.specs.declared.Measured.the-variants as M
 use Rattle.arena.specs.declared.Cleared.{Cleared}
 use Rattle.arena.specs.declared.Cleared.the-variants as C
 use Rattle.arena.specs.Memory.{Memory, Did, did, cleared, saidMeasured, saidCleared}
-
--- the number and the values of equal answers
-number-of : {a b : Answer} → a ≡ b → a .number ≡ b .number
-number-of e = ap (λ (x : Answer). x .number) e
-
-value-of : (k : ℕ) {a b : Answer} → a ≡ b → getD (a .values) k 0 ≡ getD (b .values) k 0
-value-of k e = ap (λ (x : Answer). getD (x .values) k 0) e
-
--- an accepted answer is no refusal
-differ : (why : Refusal) → 0 ≡ numberOf why → ⊥
-differ why e = omega (arith, number-pos why)
 
 pub measured-one : (x y : Measured) → saidMeasured x ≡ saidMeasured y → x ≡ y
 measured-one (M.Fit a s) (M.Fit b t) e = ap₂ M.Fit (value-of 0 e) (value-of 1 e)

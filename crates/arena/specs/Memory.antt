@@ -19,16 +19,19 @@ pub record Memory : Type 0 where
   pub cells : List ℕ
   pub bytes : List ℕ
 
+-- memory of these three slices
 abbrev pub memory : List ℕ → List ℕ → List ℕ → Memory
 memory nodes cells bytes = record { nodes = nodes; cells = cells; bytes = bytes }
 
--- N and C by the lengths of `nodes` and `cells`
+-- N, by the length of `nodes`
 abbrev pub nodeCount : ℕ → ℕ
 nodeCount len = (len - 2) / 47
 
+-- C, by the length of `cells`
 abbrev pub cellCount : ℕ → ℕ
 cellCount len = len / 2
 
+-- a number from 1 to 255
 abbrev pub upTo255 : ℕ → Bool
 upTo255 n = leb 1 n && leb n 255
 
@@ -43,6 +46,7 @@ unfoldable pub measured : ℕ → ℕ → ℕ → Answer
 measured nodes cells bytes =
     answered ((10 unless rightLengths nodes cells bytes) ∷ []) (nodeCount nodes ∷ cellCount cells ∷ []) []
 
+-- the lent lengths: 0, N and C, or the refusal's number
 abbrev pub saidMeasured : Measured → Answer
 saidMeasured (M.Fit n c) = accepted (n ∷ c ∷ [])
 saidMeasured (M.Refused why) = refused why []
@@ -61,6 +65,7 @@ pub record Did : Type 0 where
   pub answer : Answer
   pub after : Memory
 
+-- this answer, and this memory behind it
 abbrev pub did : Answer → Memory → Did
 did answer after = record { answer = answer; after = after }
 
@@ -71,6 +76,7 @@ cleared m =
     (did (accepted []) (emptied (nodeCount (length (m .nodes))) (cellCount (length (m .cells)))))
     (did (record { number = 10; values = [] }) m)
 
+-- a clear: 0, or the refusal's number
 abbrev pub saidCleared : Cleared → Answer
 saidCleared C.Done = accepted []
 saidCleared (C.Refused why) = refused why []

@@ -17,6 +17,7 @@ pub enum Measured {
     Refused(Refusal),
 }
 
+// What a clear answers: done, or 10.
 pub enum Cleared {
     Done,
     Refused(Refusal),

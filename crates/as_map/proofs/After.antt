@@ -5,17 +5,16 @@ use mathlib.Core.Logic.{_≢_}
 use mathlib.Core.Bool.{Bool, true, false, cond}
 use mathlib.Core.List.{List, [], _∷_}
 use mathlib.Core.Option.{Option, none, some}
-use Prim.Native.Nat.{ℕ, _*_, _≤_}
+use Prim.Native.Nat.{ℕ}
 use native.Mathlib.Omega.{arith}
 use lib.Dec.{leb}
 use lib.ListN.{length}
 use Rattle.order.specs.Bytes.{bytewise}
 use Rattle.order.specs.Map as order
 use Rattle.order.specs.Map.{Map, All, a[], _a∷_, lookup}
-use Rattle.arena.specs.Memory.{Memory, emptied}
-use Rattle.forest.proofs.Cleared.{cleared-tree}
-use Rattle.places.proofs.FreedCells.{bytes-zeros}
-use Rattle.as_map.specs.Calls.{Call, put, find, remove, kth, OfBytes, Heard, done, frame, entry, refused, heard, left, leftAfter, roomFor, answers}
+use Rattle.arena.specs.Memory.{Memory}
+use Rattle.as_map.specs.Calls.{Call, clear, put, find, remove, kth, OfBytes, Heard, done, frame, entry, refused, heard, left, leftAfter, answers}
+use Rattle.as_map.specs.Calls.{Room, enough, roomFor, rooms}
 use Rattle.as_map.specs.Map.{whether, mapSays, mapLeft, mapAnswers, mapAfter}
 use Rattle.as_map.proofs.Says.{says}
 use Rattle.as_map.proofs.Leaves.{Lists, leaves}
@@ -34,13 +33,13 @@ one-left m xs (v, t, bytes, e) call b =
 
 -- ---- one call after the other
 
-pub all-heard : (m : Memory) (xs : Map) → Lists m xs → {calls : List Call} → All OfBytes calls → answers m calls ≡ mapAnswers m xs calls
+pub all-heard : (m : Memory) (xs : Map) → Lists m xs → {calls : List Call} → All OfBytes calls → answers m calls ≡ mapAnswers (rooms m calls) xs calls
 all-heard m xs l a[] = refl
 all-heard m xs l (_a∷_ {x = call} b rest) =
     ap₂ (λ (h : Heard) (hs : List Heard). h ∷ hs) (one-heard m xs l call b)
     (all-heard (left m call) (mapLeft (roomFor m call) xs call) (one-left m xs l call b) rest)
 
-pub all-left : (m : Memory) (xs : Map) → Lists m xs → {calls : List Call} → All OfBytes calls → Lists (leftAfter m calls) (mapAfter m xs calls)
+pub all-left : (m : Memory) (xs : Map) → Lists m xs → {calls : List Call} → All OfBytes calls → Lists (leftAfter m calls) (mapAfter (rooms m calls) xs calls)
 all-left m xs l a[] = l
 all-left m xs l (_a∷_ {x = call} b rest) =
     all-left (left m call) (mapLeft (roomFor m call) xs call) (one-left m xs l call b) rest
@@ -57,8 +56,9 @@ refusalOf (refused n) = n
 not-10 : {h : Heard} (n : ℕ) → refusalOf h ≡ n → n ≢ 10 → h ≢ refused 10
 not-10 n e d q = d (sym e ∙ ap refusalOf q)
 
-says-not-10 : (room : Bool) (xs : Map) (call : Call) → mapSays room xs call ≢ refused 10
-says-not-10 room xs (put key x) = go (leb (length key) 256) (lookup bytewise key xs) room
+says-not-10 : (room : Room) (xs : Map) (call : Call) → mapSays room xs call ≢ refused 10
+says-not-10 room xs clear = not-10 0 refl (λ e. omega arith)
+says-not-10 room xs (put key x) = go (leb (length key) 256) (lookup bytewise key xs) (enough room)
   where
     go : (short : Bool) (found : Option ℕ) (room : Bool)
         → cond short (whether (cond room done (refused 13)) (λ y. refused 11) found) (refused 7) ≢ refused 10
@@ -84,14 +84,7 @@ says-not-10 room xs (kth k) = go (order.kth k xs)
     go none = not-10 12 refl (λ e. omega arith)
     go (some e) = not-10 0 refl (λ e. omega arith)
 
-pub all-not-10 : (m : Memory) (xs : Map) (calls : List Call) → All (λ h. h ≢ refused 10) (mapAnswers m xs calls)
-all-not-10 m xs [] = a[]
-all-not-10 m xs (call ∷ calls) =
-    says-not-10 (roomFor m call) xs call a∷ all-not-10 (left m call) (mapLeft (roomFor m call) xs call) calls
-
--- ---- after a clear
-
--- memory lists nothing
-pub cleared-lists : (n c : ℕ) → 1 ≤ n → n ≤ 255 → 1 ≤ c → c ≤ 255 → Lists (emptied n c) []
-cleared-lists n c n-low n-high c-low c-high =
-    let (v, t, e) = cleared-tree n c n-low n-high c-low c-high in (v, t, bytes-zeros (c * 256), e)
+pub all-not-10 : (rooms : List Room) (xs : Map) (calls : List Call) → All (λ h. h ≢ refused 10) (mapAnswers rooms xs calls)
+all-not-10 rooms xs [] = a[]
+all-not-10 [] xs (call ∷ calls) = a[]
+all-not-10 (room ∷ rooms) xs (call ∷ calls) = says-not-10 room xs call a∷ all-not-10 rooms (mapLeft room xs call) calls

@@ -1,29 +1,54 @@
 -- What each call leaves of memory that is a tree: a tree that lists what the sorted map leaves. A refused call leaves memory as it was.
-use mathlib.Core.Path.{_≡_, refl, sym, ap}
+use mathlib.Core.Path.{_≡_, refl, sym, ap, subst}
 use mathlib.Core.Bool.{Bool, true, false, cond, not}
 use mathlib.Core.List.{List, [], _∷_}
 use mathlib.Core.Option.{Option, none, some}
-use Prim.Native.Nat.{ℕ, _≤_, Ordering, Ordering·lt, Ordering·eq, Ordering·gt}
+use Prim.Native.Nat.{ℕ, _*_, _≤_, Ordering, Ordering·lt, Ordering·eq, Ordering·gt}
 use native.Mathlib.Omega.{arith}
-use lib.Dec.{leb}
+use lib.Dec.{T, leb}
 use lib.ListN.{length}
 use borrow.Author.Tests.{leb-true}
+use Rattle.bank.proofs.Tests.{is-true}
 use Rattle.puts.proofs.Puts.{put-tree}
 use Rattle.refusal.specs.Answer.{_unless_, answered}
 use Rattle.order.specs.Bytes.{Bytes, bytewise}
 use Rattle.order.specs.Map.{Map, pick, lookup, alter, insert, delete}
-use Rattle.arena.specs.Memory.{Memory}
+use Rattle.arena.specs.Memory.{Memory, nodeCount, cellCount, rightLengths, emptied, cleared}
+use Rattle.arena.proofs.Measures.{right-means}
 use Rattle.forest.specs.IsTree.{Layers, IsTree, listing}
+use Rattle.forest.proofs.Cleared.{cleared-tree}
 use Rattle.model.specs.Calls.{place, stored, without, with, hasRoom, removed, putDone, whenAccepted}
 use Rattle.places.proofs.Found.{isSome, stored-lookup}
 use Rattle.places.proofs.Removed.{removed-tree}
-use Rattle.as_map.specs.Calls.{Call, put, find, remove, kth, OfBytes, left, roomFor}
+use Rattle.places.proofs.FreedCells.{bytes-zeros}
+use Rattle.as_map.specs.Calls.{Call, clear, put, find, remove, kth, OfBytes, left, roomFor}
 use Rattle.as_map.specs.Map.{whether, mapLeft}
 use Rattle.as_map.proofs.Says.{accepted}
 
 -- memory is a tree whose keys are bytes, and it lists these entries
 abbrev pub Lists : Memory → Map → Type 0
 Lists m xs = (v : Layers) × IsTree m v × Bytes (m .bytes) × (listing m v ≡ xs)
+
+-- ---- clear
+
+-- memory that was cleared lists nothing
+pub cleared-lists : (n c : ℕ) → 1 ≤ n → n ≤ 255 → 1 ≤ c → c ≤ 255 → Lists (emptied n c) []
+cleared-lists n c n-low n-high c-low c-high =
+    let (v, t, e) = cleared-tree n c n-low n-high c-low c-high in (v, t, bytes-zeros (c * 256), e)
+
+-- clear leaves that of any lent memory of right lengths
+module _ (m : Memory) (lent : T (rightLengths (length (m .nodes)) (length (m .cells)) (length (m .bytes)))) where
+  pub clear-left : cleared m .after ≡ emptied (nodeCount (length (m .nodes))) (cellCount (length (m .cells)))
+  unfolding cleared
+  clear-left = rw (is-true (rightLengths (length (m .nodes)) (length (m .cells)) (length (m .bytes))) lent) refl
+
+  pub clear-leaves : Lists (left m clear) []
+  clear-leaves =
+      let r = right-means _ _ _ (is-true _ lent) in
+      subst (λ (after : Memory). Lists after []) (sym clear-left)
+      (cleared-lists (nodeCount (length (m .nodes))) (cellCount (length (m .cells))) (r .n-low) (r .n-high) (r .c-low) (r .c-high))
+
+-- ---- remove and put
 
 -- a key that is not there leaves nothing to delete
 delete-missing : (key : List ℕ) (xs : Map) → lookup bytewise key xs ≡ none → delete bytewise key xs ≡ xs
@@ -63,7 +88,7 @@ module _ (m : Memory) (v : Layers) (t : IsTree m v) (bytes : Bytes (m .bytes)) w
     its-rest : stored m key ≡ true → Lists (without m (place m key)) (delete bytewise key (listing m v))
     its-rest e = let (w, u, l, c) = removed-tree m v t bytes key b e in (w, u, c, l)
 
-    remove-leaves : Lists (left m (remove key)) (mapLeft true (listing m v) (remove key))
+    remove-leaves : Lists (left m (remove key)) (mapLeft (roomFor m (remove key)) (listing m v) (remove key))
     unfolding removed
     remove-leaves =
         rw (accepted m v t bytes, remove-left (leb (length key) 256) (stored m key) (without m (place m key)) m)
@@ -84,7 +109,7 @@ module _ (m : Memory) (v : Layers) (t : IsTree m v) (bytes : Bytes (m .bytes)) w
           → Lists (with m key x) (insert bytewise key x (listing m v))
       its-more short e r = let (w, u, l, c) = put-tree m v t bytes key b (leb-true (length key) 256 short) x e r in (w, u, c, l)
 
-      put-leaves : Lists (left m (put key x)) (mapLeft (hasRoom m key) (listing m v) (put key x))
+      put-leaves : Lists (left m (put key x)) (mapLeft (roomFor m (put key x)) (listing m v) (put key x))
       unfolding putDone
       put-leaves =
           rw (accepted m v t bytes, put-left (leb (length key) 256) (stored m key) (hasRoom m key) (with m key x) m)
@@ -103,6 +128,7 @@ module _ (m : Memory) (v : Layers) (t : IsTree m v) (bytes : Bytes (m .bytes)) w
 
   -- every call leaves what the map does
   pub leaves : (call : Call) → OfBytes call → Lists (left m call) (mapLeft (roomFor m call) (listing m v) call)
+  leaves clear b = clear-leaves m (t .lent)
   leaves (put key x) b = put-leaves key b x
   leaves (find key) b = as-it-was
   leaves (remove key) b = remove-leaves key b

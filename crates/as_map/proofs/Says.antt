@@ -4,20 +4,21 @@ use mathlib.Core.Bool.{Bool, true, false, cond, not}
 use mathlib.Core.List.{List, [], _∷_, map}
 use mathlib.Core.Option.{Option, none, some}
 use Prim.Native.Nat.{ℕ, zero, suc}
-use lib.Dec.{leb, ltb, leb·zero, leb·suc-zero, leb·suc-suc}
+use native.Mathlib.Omega.{arith}
+use lib.Dec.{T, leb, ltb, leb·zero, leb·suc-zero, leb·suc-suc}
 use lib.ListN.{length, getD}
 use Rattle.bank.proofs.Tests.{is-true}
 use Rattle.refusal.specs.Answer.{_unless_, answered}
 use Rattle.order.specs.Bytes.{Bytes, bytewise}
 use Rattle.order.specs.Map as order
-use Rattle.arena.specs.Memory.{Memory}
+use Rattle.arena.specs.Memory.{Memory, rightLengths, cleared}
 use Rattle.forest.specs.Walk.{isTree}
 use Rattle.forest.specs.IsTree.{Layers, IsTree, listing}
 use Rattle.forest.proofs.Accepts.{tree-accepted}
-use Rattle.model.specs.Calls.{inKeyOrder, entryOf, findSaid, kthSaid, removed, putDone, hasRoom}
+use Rattle.model.specs.Calls.{place, stored, frameOf, inKeyOrder, entryOf, findSaid, kthSaid, removed, putDone, hasRoom}
 use Rattle.views.proofs.Listed.{keyAndFrame, cells-listed}
 use Rattle.places.proofs.Found.{asList, isSome, stored-lookup, frame-lookup}
-use Rattle.as_map.specs.Calls.{Call, put, find, remove, kth, OfBytes, Heard, done, frame, entry, refused, heardOf, heard, keyTold, roomFor}
+use Rattle.as_map.specs.Calls.{Call, clear, put, find, remove, kth, OfBytes, Heard, done, frame, entry, refused, heardOf, heard, keyTold, roomFor}
 use Rattle.as_map.specs.Map.{whether, mapSays}
 
 -- ---- the rules of each call, once memory is a tree: `short` for a key of at most 256 bytes, `found` for what the map has
@@ -60,6 +61,11 @@ kth-told false told tell = refl
 
 -- ---- what is heard
 
+-- clear, on any lent memory of right lengths
+pub clear-says : (m : Memory) → T (rightLengths (length (m .nodes)) (length (m .cells)) (length (m .bytes))) → heard m clear ≡ done
+unfolding cleared
+clear-says m lent = rw (is-true (rightLengths (length (m .nodes)) (length (m .cells)) (length (m .bytes))) lent) refl
+
 module _ (m : Memory) (v : Layers) (t : IsTree m v) (bytes : Bytes (m .bytes)) where
   pub accepted : isTree m ≡ true
   accepted = is-true (isTree m) (tree-accepted m v t)
@@ -68,20 +74,20 @@ module _ (m : Memory) (v : Layers) (t : IsTree m v) (bytes : Bytes (m .bytes)) w
     abbrev found : Option ℕ
     found = order.lookup bytewise key (listing m v)
 
-    find-says : heard m (find key) ≡ mapSays true (listing m v) (find key)
+    find-says : heard m (find key) ≡ mapSays (roomFor m (find key)) (listing m v) (find key)
     unfolding findSaid
     find-says =
         rw (accepted, stored-lookup m v t bytes key b, frame-lookup m v t bytes key b) (find-ruled (leb (length key) 256) found)
 
-    remove-says : heard m (remove key) ≡ mapSays true (listing m v) (remove key)
+    remove-says : heard m (remove key) ≡ mapSays (roomFor m (remove key)) (listing m v) (remove key)
     unfolding removed
     remove-says = rw (accepted, stored-lookup m v t bytes key b) (remove-ruled (leb (length key) 256) found)
 
-    put-says : (x : ℕ) → heard m (put key x) ≡ mapSays (hasRoom m key) (listing m v) (put key x)
+    put-says : (x : ℕ) → heard m (put key x) ≡ mapSays (roomFor m (put key x)) (listing m v) (put key x)
     unfolding putDone
     put-says x = rw (accepted, stored-lookup m v t bytes key b) (put-ruled (leb (length key) 256) found (hasRoom m key))
 
-  kth-says : (k : ℕ) → heard m (kth k) ≡ mapSays true (listing m v) (kth k)
+  kth-says : (k : ℕ) → heard m (kth k) ≡ mapSays (roomFor m (kth k)) (listing m v) (kth k)
   unfolding kthSaid
   kth-says k =
       rw accepted
@@ -91,7 +97,21 @@ module _ (m : Memory) (v : Layers) (t : IsTree m v) (bytes : Bytes (m .bytes)) w
 
   -- every call hears what the map says
   pub says : (call : Call) → OfBytes call → heard m call ≡ mapSays (roomFor m call) (listing m v) call
+  says clear b = clear-says m (t .lent)
   says (put key x) b = put-says key b x
   says (find key) b = find-says key b
   says (remove key) b = remove-says key b
   says (kth k) b = kth-says k
+
+-- ---- a stored key, by the listing
+
+pub stored-means : (m : Memory) (v : Layers) → IsTree m v → Bytes (m .bytes) → (key : List ℕ) → Bytes key
+    → (stored m key ≡ true → (x : ℕ) × (order.lookup bytewise key (listing m v) ≡ some x) × (frameOf m (place m key) ≡ x ∷ []))
+    × (stored m key ≡ false → order.lookup bytewise key (listing m v) ≡ none)
+stored-means m v t bytes key b =
+    go (stored m key) (order.lookup bytewise key (listing m v)) (stored-lookup m v t bytes key b) (frame-lookup m v t bytes key b)
+  where
+    go : (there : Bool) (found : Option ℕ) → there ≡ isSome found → frameOf m (place m key) ≡ asList found
+        → (there ≡ true → (x : ℕ) × (found ≡ some x) × (frameOf m (place m key) ≡ x ∷ [])) × (there ≡ false → found ≡ none)
+    go there none e f = (λ q. let z : _≡_ {A = ℕ} 0 1 = cc in absurd (omega arith), λ q. refl)
+    go there (some x) e f = (λ q. (x, refl, f), λ q. let z : _≡_ {A = ℕ} 0 1 = cc in absurd (omega arith))

@@ -1,22 +1,26 @@
--- Calls on the index after a clear, and what their caller hears.
+-- Calls on the index, what their caller hears, and what each finds free.
 use Prim.Native.Nat.{ℕ, _≤_, _<_}
 use mathlib.Core.Path.{_≡_}
 use mathlib.Core.Logic.{_⊎_}
-use mathlib.Core.Bool.{Bool, true, false, cond}
+use mathlib.Core.Bool.{Bool, cond, _&&_}
 use mathlib.Core.List.{List, [], _∷_}
-use lib.Dec.{T, eqb}
-use lib.ListN.{length, getD}
+use mathlib.Core.Option.{none}
+use lib.Dec.{leb, eqb}
+use lib.ListN.{length, getD, drop}
 use Rattle.refusal.specs.Answer.{Answer}
-use Rattle.order.specs.Bytes.{Bytes}
+use Rattle.order.specs.Bytes.{Bytes, bytewise}
+use Rattle.order.specs.Map.{lookup}
 use Rattle.arena.specs.Parts.{part}
-use Rattle.arena.specs.Layout.{keyStart}
+use Rattle.arena.specs.Layout.{keyStart, markAt, keyAt, freedCell, freedKey}
 use Rattle.arena.specs.Free.{freeNodes, freeCells}
-use Rattle.arena.specs.Memory.{Memory}
-use Rattle.forest.specs.Walk.{isTree}
-use Rattle.model.specs.Calls.{nodesOf, cellsOf, stored, needed, findSaid, kthSaid, removed, putDone, hasRoom}
+use Rattle.arena.specs.Memory.{Memory, cleared}
+use Rattle.forest.specs.IsTree.{Layers, listing}
+use Rattle.model.specs.Calls.{nodesOf, cellsOf, needed, findSaid, kthSaid, removed, putDone}
+use Rattle.puts.specs.Needed.{neededNodes}
 
--- a call after a clear, with its key and frame number, or its k
+-- a call, with its key and frame number, or its k
 pub data Call : Type 0 where
+  clear : Call
   put : List ℕ → ℕ → Call
   find remove : List ℕ → Call
   kth : ℕ → Call
@@ -38,6 +42,7 @@ keyTold m values = part (m .bytes) (keyStart (getD values 0 0)) (getD values 1 0
 
 -- what the index says to a call
 abbrev pub heard : Memory → Call → Heard
+heard m clear = heardOf (cleared m .answer) (λ values. done)
 heard m (put key x) = heardOf (putDone m key x .answer) (λ values. done)
 heard m (find key) = heardOf (findSaid m key) (λ values. frame (getD values 0 0))
 heard m (remove key) = heardOf (removed m key .answer) (λ values. done)
@@ -45,17 +50,42 @@ heard m (kth k) = heardOf (kthSaid m k) (λ values. entry (keyTold m values) (ge
 
 -- and the memory that it leaves
 abbrev pub left : Memory → Call → Memory
+left m clear = cleared m .after
 left m (put key x) = putDone m key x .after
 left m (find key) = m
 left m (remove key) = removed m key .after
 left m (kth k) = m
 
--- a put of this key finds nodes and cells enough
-abbrev pub roomFor : Memory → Call → Bool
-roomFor m (put key x) = hasRoom m key
-roomFor m (find key) = true
-roomFor m (remove key) = true
-roomFor m (kth k) = true
+-- ---- room
+
+-- what a call finds: how many cells and nodes are free, and how many nodes it needs
+pub record Room : Type 0 where
+  pub cells-free : ℕ
+  pub nodes-free : ℕ
+  pub nodes-needed : ℕ
+
+-- a cell is free, and nodes enough are
+abbrev pub enough : Room → Bool
+enough room = leb 1 (room .cells-free) && leb (room .nodes-needed) (room .nodes-free)
+
+-- the nodes that a call needs: a put what document 01 counts, every other call none
+abbrev pub nodesFor : Memory → Call → ℕ
+nodesFor m clear = 0
+nodesFor m (put key x) = needed m key
+nodesFor m (find key) = 0
+nodesFor m (remove key) = 0
+nodesFor m (kth k) = 0
+
+-- what this call finds
+abbrev pub roomFor : Memory → Call → Room
+roomFor m call =
+    record {
+      cells-free = length (freeCells (m .cells) (cellsOf m));
+      nodes-free = length (freeNodes (m .nodes) (nodesOf m));
+      nodes-needed = nodesFor m call;
+    }
+
+-- ---- one call after the other
 
 -- what the index says to one call after the other
 abbrev pub answers : Memory → List Call → List Heard
@@ -67,20 +97,40 @@ abbrev pub leftAfter : Memory → List Call → Memory
 leftAfter m [] = m
 leftAfter m (call ∷ calls) = leftAfter (left m call) calls
 
+-- and what each of them finds
+abbrev pub rooms : Memory → List Call → List Room
+rooms m [] = []
+rooms m (call ∷ calls) = roomFor m call ∷ rooms (left m call) calls
+
 -- keys are bytes
 abbrev pub OfBytes : Call → Type 0
+OfBytes clear = Unit {0}
 OfBytes (put key x) = Bytes key
 OfBytes (find key) = Bytes key
 OfBytes (remove key) = Bytes key
 OfBytes (kth k) = Unit {0}
 
--- no cell is free, or fewer nodes are free than a put of this key needs
-abbrev pub TooFew : Memory → List ℕ → Type 0
-TooFew m key = (freeCells (m .cells) (cellsOf m) ≡ []) ⊎ (length (freeNodes (m .nodes) (nodesOf m)) < needed m key)
+-- ---- what a put lacks, what it takes, and what a removal frees, where memory is the tree v
 
--- all that a put of this key lacks is room
-pub record LacksRoom (m : Memory) (key : List ℕ) : Type 0 where
+-- no cell is free, or fewer nodes are free than a put of this key needs
+abbrev pub TooFew : Memory → Layers → List ℕ → Type 0
+TooFew m v key = (freeCells (m .cells) (cellsOf m) ≡ []) ⊎ (length (freeNodes (m .nodes) (nodesOf m)) < neededNodes m v key)
+
+-- all that a put of this key lacks is room: the key is of 256 bytes at most, and it is new
+pub record LacksRoom (m : Memory) (v : Layers) (key : List ℕ) : Type 0 where
   pub short : length key ≤ 256
-  pub tree : T (isTree m)
-  pub new : stored m key ≡ false
-  pub too-few : TooFew m key
+  pub new : lookup bytewise key (listing m v) ≡ none
+  pub too-few : TooFew m v key
+
+-- a put took the lowest free nodes, as many as it needs, and the lowest free cell
+pub record Took (m : Memory) (v : Layers) (key : List ℕ) (after : Memory) : Type 0 where
+  pub nodes-taken : freeNodes (after .nodes) (nodesOf m) ≡ drop (neededNodes m v key) (freeNodes (m .nodes) (nodesOf m))
+  pub cell-taken : freeCells (after .cells) (cellsOf m) ≡ drop 1 (freeCells (m .cells) (cellsOf m))
+
+-- a removal freed cell c, which had the key: its words and bytes are zero, every other cell is as it was, and so are the free nodes
+pub record Freed (m : Memory) (key : List ℕ) (c : ℕ) (after : Memory) : Type 0 where
+  pub in-use : 1 ≤ markAt (m .cells) c
+  pub its-key : keyAt (m .cells) (m .bytes) c ≡ key
+  pub cell-freed : after .cells ≡ freedCell (m .cells) c
+  pub key-freed : after .bytes ≡ freedKey (m .bytes) c
+  pub nodes-kept : freeNodes (after .nodes) (nodesOf m) ≡ freeNodes (m .nodes) (nodesOf m)

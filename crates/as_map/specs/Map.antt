@@ -1,6 +1,6 @@
 -- The same calls on a sorted map from keys to frame numbers.
 use Prim.Native.Nat.{ℕ}
-use mathlib.Core.Bool.{Bool, cond}
+use mathlib.Core.Bool.{cond}
 use mathlib.Core.List.{List, [], _∷_}
 use mathlib.Core.Option.{Option, none, some}
 use lib.Dec.{leb}
@@ -8,8 +8,7 @@ use lib.ListN.{length}
 use Rattle.order.specs.Bytes.{bytewise}
 use Rattle.order.specs.Map as map
 use Rattle.order.specs.Map.{Map}
-use Rattle.arena.specs.Memory.{Memory}
-use Rattle.as_map.specs.Calls.{Call, put, find, remove, kth, Heard, done, frame, entry, refused, left, roomFor}
+use Rattle.as_map.specs.Calls.{Call, clear, put, find, remove, kth, Heard, done, frame, entry, refused, Room, enough}
 
 -- f of the value that is there, else z
 abbrev pub whether : {A B : Type 0} → B → (A → B) → Option A → B
@@ -20,29 +19,32 @@ whether z f (some a) = f a
 abbrev pub ofLength : {A : Type 0} → List ℕ → A → A → A
 ofLength key long short = cond (leb (length key) 256) short long
 
--- what a sorted map says to a call; `room`: nodes and cells enough are free
-abbrev pub mapSays : Bool → Map → Call → Heard
+-- what a sorted map says to a call that finds this room
+abbrev pub mapSays : Room → Map → Call → Heard
+mapSays room xs clear = done
 mapSays room xs (put key x) =
-    ofLength key (refused 7) (whether (cond room done (refused 13)) (λ y. refused 11) (map.lookup bytewise key xs))
+    ofLength key (refused 7) (whether (cond (enough room) done (refused 13)) (λ y. refused 11) (map.lookup bytewise key xs))
 mapSays room xs (find key) = ofLength key (refused 7) (whether (refused 12) frame (map.lookup bytewise key xs))
 mapSays room xs (remove key) = ofLength key (refused 7) (whether (refused 12) (λ y. done) (map.lookup bytewise key xs))
 mapSays room xs (kth k) = whether (refused 12) (λ e. entry (e .0) (e .1)) (map.kth k xs)
 
 -- and the map that it leaves
-abbrev pub mapLeft : Bool → Map → Call → Map
+abbrev pub mapLeft : Room → Map → Call → Map
+mapLeft room xs clear = []
 mapLeft room xs (put key x) =
-    ofLength key xs (whether (cond room (map.insert bytewise key x xs) xs) (λ y. xs) (map.lookup bytewise key xs))
+    ofLength key xs (whether (cond (enough room) (map.insert bytewise key x xs) xs) (λ y. xs) (map.lookup bytewise key xs))
 mapLeft room xs (find key) = xs
 mapLeft room xs (remove key) = ofLength key xs (map.delete bytewise key xs)
 mapLeft room xs (kth k) = xs
 
--- what it says to one call after the other, with the room that the memory has
-abbrev pub mapAnswers : Memory → Map → List Call → List Heard
-mapAnswers m xs [] = []
-mapAnswers m xs (call ∷ calls) =
-    mapSays (roomFor m call) xs call ∷ mapAnswers (left m call) (mapLeft (roomFor m call) xs call) calls
+-- what it says to one call after the other, where each finds the room beside it
+abbrev pub mapAnswers : List Room → Map → List Call → List Heard
+mapAnswers rooms xs [] = []
+mapAnswers [] xs (call ∷ calls) = []
+mapAnswers (room ∷ rooms) xs (call ∷ calls) = mapSays room xs call ∷ mapAnswers rooms (mapLeft room xs call) calls
 
 -- and the map that they leave
-abbrev pub mapAfter : Memory → Map → List Call → Map
-mapAfter m xs [] = xs
-mapAfter m xs (call ∷ calls) = mapAfter (left m call) (mapLeft (roomFor m call) xs call) calls
+abbrev pub mapAfter : List Room → Map → List Call → Map
+mapAfter rooms xs [] = xs
+mapAfter [] xs (call ∷ calls) = xs
+mapAfter (room ∷ rooms) xs (call ∷ calls) = mapAfter rooms (mapLeft room xs call) calls

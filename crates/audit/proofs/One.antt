@@ -1,21 +1,11 @@
 -- The answer is known by what it says: the contract of `audit` leaves one outcome. Assumes nothing.
 use mathlib.Core.Path.{_≡_, refl, sym, ap, _∙_}
-use native.Mathlib.Omega.{arith}
-use Rattle.refusal.specs.Answer.{Answer}
-use Rattle.refusal.specs.declared.Refusal.{Refusal}
-use Rattle.refusal.specs.Refusals.{numberOf}
-use Rattle.refusal.proofs.Laws.{number-one, number-pos}
+use Rattle.refusal.proofs.Laws.{number-one}
+use Rattle.refusal.proofs.One.{number-of, differ}
 use Rattle.arena.specs.Memory.{Memory}
 use Rattle.audit.specs.declared.Audited.{Audited}
 use Rattle.audit.specs.declared.Audited.the-variants as A
 use Rattle.audit.specs.Audit.{audited, saidAudited}
-
-number-of : {a b : Answer} → a ≡ b → a .number ≡ b .number
-number-of e = ap (λ (x : Answer). x .number) e
-
--- an accepted answer is no refusal
-differ : (why : Refusal) → 0 ≡ numberOf why → ⊥
-differ why e = omega (arith, number-pos why)
 
 pub audited-one : (x y : Audited) → saidAudited x ≡ saidAudited y → x ≡ y
 audited-one A.Tree A.Tree e = refl

@@ -18,12 +18,12 @@ use Rattle.audit.specs.declared.Audited.the-variants as audited-is
 unfoldable pub audited : Memory → Answer
 audited m = answered ((10 unless isTree m) ∷ []) [] []
 
--- 0, or 10
+-- an audit: 0, or the refusal's number
 abbrev pub saidAudited : Audited → Answer
 saidAudited audited-is.Tree = accepted []
 saidAudited (audited-is.Refused why) = refused why []
 
--- a node, and a cell, that was seen or is free
+-- a node was seen, or is free
 unfoldable pub nodeLeft : List ℕ → Seen → ℕ → Bool
 nodeLeft nodes seen k = eqb (getD seen (nodeNo k) 0) 1 || nodeFree nodes k
 

@@ -10,6 +10,7 @@ ghost use Rattle.audit.specs.Audit.{audited, saidAudited, nodeLeft, cell
 use arena::Measured;
 use refusal::Refusal;
 
+// What an audit answers: memory is a tree, or 10.
 pub enum Audited {
     Tree,
     Refused(Refusal),

@@ -12,6 +12,7 @@ pub record Bank : Type 0 where
   pub size : ℕ
   pub slots : List ℕ
 
+-- how many positions there are
 abbrev pub width : Bank → ℕ
 width b = length (b .slots)
 
@@ -27,11 +28,11 @@ slotAt i b = getD (b .slots) i 0
 abbrev pub placeInUse : ℕ → Bank → ℕ
 placeInUse s b = placeOf s (take (b .size) (b .slots))
 
--- the sorted bank of width W with n slots taken: position i holds i for i < n, and W-1-(i-n) above; with none taken it is
--- the empty bank, whose position i holds W-1-i
+-- what position i holds in the sorted bank of width W with n slots taken: i for i < n, and W-1-(i-n) above
 abbrev pub sortedAt : ℕ → ℕ → ℕ → ℕ
 sortedAt w n i = cond (ltb i n) i (w - 1 - (i - n))
 
+-- that bank, its first n positions in use; with none taken it is the empty bank, whose position i holds W-1-i
 unfoldable pub sorted : ℕ → ℕ → Bank
 sorted w n = record { size = n; slots = listed (sortedAt w n) 0 w }
 

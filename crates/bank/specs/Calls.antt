@@ -17,7 +17,7 @@ use Rattle.bank.specs.Bank.{
   resized,
 }
 
--- calls that hand a bank back
+-- calls that hand a bank back, each with its positions, its size or its slot
 pub data Change : Type 0 where
   fromValue : Change
   setSize : ℕ → Change
@@ -29,7 +29,7 @@ pub data Change : Type 0 where
   exchange : ℕ → ℕ → Change
   rotate : ℕ → ℕ → Change
 
--- calls that tell a number and change nothing
+-- calls that tell a number and change nothing, with a position or an offset
 pub data Question : Type 0 where
   size : Question
   get : ℕ → Question

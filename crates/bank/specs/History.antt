@@ -27,12 +27,14 @@ pub record Done (Held : Type 0) : Type 0 where
   pub handed : List ℕ
   pub released : List ℕ
 
--- The three kinds of call of a history, refused ones among them.
+-- The three kinds of call of a history, refused ones among them: insert_from_back and remove at a position, and remove_slot of a
+-- slot.
 pub data Call : Type 0 where
   inserting : ℕ → Call
   removing : ℕ → Call
   removingSlot : ℕ → Call
 
+-- the same among the calls that hand a bank back
 abbrev pub asChange : Call → Change
 asChange (inserting i) = insertFromBack i
 asChange (removing i) = remove i

@@ -4,6 +4,7 @@ use mathlib.Core.Bool.{Bool, true, false, _&&_}
 use mathlib.Core.List.{List, [], _∷_, _++_}
 use lib.ListN.{length, getD, take, drop, set}
 use lib.Dec.{eqb}
+pub use Rattle.order.specs.Lists.{hereOrLater}
 
 -- positions a to b-1
 abbrev pub part : ℕ → ℕ → List ℕ → List ℕ
@@ -17,6 +18,7 @@ turned a b c ps = take a ps ++ (part b c ps ++ (part a b ps ++ drop c ps))
 unfoldable pub swapped : ℕ → ℕ → List ℕ → List ℕ
 swapped i j ps = set (set ps i (getD ps j 0)) j (getD ps i 0)
 
+-- one more where the test holds
 abbrev pub oneMoreIf : Bool → ℕ → ℕ
 oneMoreIf true n = suc n
 oneMoreIf false n = n
@@ -34,10 +36,6 @@ allBelow (suc n) test = test n && allBelow n test
 -- the W positions hold 0 to W-1 once each
 unfoldable pub eachOnce : List ℕ → Bool
 eachOnce ps = allBelow (length ps) (λ s. eqb (count s ps) 1)
-
-abbrev pub hereOrLater : Bool → ℕ → ℕ
-hereOrLater true later = zero
-hereOrLater false later = suc later
 
 -- the first position that holds s, or the length where none does
 unfoldable pub placeOf : ℕ → List ℕ → ℕ

@@ -20,16 +20,14 @@ use Rattle.bank.specs.Calls.{Change, Question, changeRules, after, handedOut, q
 use Rattle.bank.proofs.Rules.{changes-listed, questions-listed}
 use Rattle.nibbles.specs.Words.{bankOf, wordOf, goodWidth, validWord}
 use Rattle.permuter.specs.Words.{wordRules, changed, asked, madeSorted, madeEmpty}
-use Rattle.order.specs.Bytes.{bytewise}
-use Rattle.ikey.specs.Said.{place, compareKeysSaid}
-use Rattle.key.specs.Keys.{fits, numbersAt, hasSuffix, shiftable, asked as askedOfKey, moved, newSaid, shiftSaid, shiftBySaid, unshiftSaid}
+use Rattle.ikey.specs.Said.{place}
 use Rattle.order.specs.Layer.{classAt}
 use Rattle.internode_places.specs.declared.Internode.{Internode}
 use Rattle.internode.specs.Lists.{rising, insertedAt}
 use Rattle.internode.specs.Node.{keysOf, good, insertPosition, childFor, inserted, numbers}
 use Rattle.internode.specs.Calls.{findSaid, compareSaid, childSaid, insertSaid}
 use Rattle.leaf_entries.specs.declared.Entry.{Entry}
-use Rattle.leaf.specs.Search.{searchRules, outcome, searchSaid}
+use Rattle.leaf.specs.Search.{searchRules, outcome, searchSaid, givenBack}
 use Rattle.lent_leaf.specs.Search.{lentSearchRules, lentSearchSaid}
 use Rattle.arena.specs.Memory.{Memory, nodeCount, cellCount, rightLengths, measured, Did, cleared}
 use Rattle.arena.proofs.Refused.{clear-says, clear-kept}
@@ -60,55 +58,12 @@ pub sorted-words : (w n : ℕ)
 unfolding madeSorted listedAbove
 sorted-words w n = as-ruled tt
 
+-- `empty` has 1 alone.
 pub empty-words : (w : ℕ) → AsRuled ((1 unless goodWidth w) ∷ []) (wordOf (sorted w 0) ∷ []) [] (madeEmpty w)
 unfolding madeEmpty listedAbove
 empty-words w = as-ruled tt
 
--- ---- keys, which are the caller's bytes and three numbers. `held_key`, whose keys hold their bytes, answers by the same definitions.
-
-module _ (bytes : List ℕ) (ikey shifts suffix : ℕ) where
-  -- 7 unless the key fits its bytes, and then what the call needs
-  abbrev pub keyRules : List Rule → List Rule
-  keyRules rules = (7 unless fits bytes ikey shifts suffix) ∷ rules
-
-  -- a refused key comes back as its three numbers
-  abbrev pub keyGiven : List ℕ
-  keyGiven = ikey ∷ shifts ∷ suffix ∷ []
-
-  -- Calls that ask something of a key, whatever it is (judge, len, ikey, shift_count, suffix_start, current_len, is_empty, is_shifted,
-  -- has_suffix, suffix_len, compare, compare_suffix), and unshift_all: 7 alone.
-  pub key-questions : (values : List ℕ) → AsRuled (keyRules []) values keyGiven (askedOfKey bytes ikey shifts suffix values)
-  unfolding askedOfKey listedAbove
-  key-questions values = as-ruled tt
-
-  -- Calls that move a key to another layer: 7, then 8. `shift` needs a suffix,
-  pub key-shifts : AsRuled (keyRules ((8 unless hasSuffix bytes shifts) ∷ [])) (numbersAt bytes (shifts + 1)) keyGiven
-      (shiftSaid bytes ikey shifts suffix)
-  unfolding moved listedAbove
-  key-shifts = as-ruled tt
-
-  -- `shift_by` a multiple of 8, and no more shifts than `shift` would allow,
-  pub key-shifts-by : (by : ℕ)
-      → AsRuled (keyRules ((8 unless shiftable bytes shifts by) ∷ [])) (numbersAt bytes (shifts + by / 8)) keyGiven
-      (shiftBySaid bytes ikey shifts suffix by)
-  unfolding moved listedAbove
-  key-shifts-by by = as-ruled tt
-
-  -- and `unshift` a layer above.
-  pub key-unshifts : AsRuled (keyRules ((8 unless ltb 0 shifts) ∷ [])) (numbersAt bytes (shifts - 1)) keyGiven
-      (unshiftSaid bytes ikey shifts suffix)
-  unfolding moved listedAbove
-  key-unshifts = as-ruled tt
-
--- A new key, and two whole keys compared: 7 over 256 bytes.
-pub new-keys : (bytes : List ℕ) → AsRuled ((7 unless leb (length bytes) 256) ∷ []) (numbersAt bytes 0) [] (newSaid bytes)
-unfolding newSaid listedAbove
-new-keys bytes = as-ruled tt
-
-pub whole-keys : (a b : List ℕ)
-    → AsRuled ((7 unless leb (length a) 256 && leb (length b) 256) ∷ []) (place (bytewise a b) ∷ []) [] (compareKeysSaid a b)
-unfolding compareKeysSaid listedAbove
-whole-keys a b = as-ruled tt
+-- ---- keys: in `Demand1Keys.antt`
 
 -- ---- one node
 
@@ -118,11 +73,13 @@ pub internode-places : (x : Internode) (target : ℕ)
 unfolding findSaid listedAbove
 internode-places x target = as-ruled tt
 
+-- A comparison with the ikey at p: 3, then 4 unless p is below n.
 pub internode-comparisons : (x : Internode) (ikey p : ℕ)
     → AsRuled ((3 unless good x) ∷ (4 unless ltb p (x .n)) ∷ []) (place (compare ikey (getD (x .ikeys) p 0)) ∷ []) [] (compareSaid x ikey p)
 unfolding compareSaid listedAbove
 internode-comparisons x ikey p = as-ruled tt
 
+-- The child of a descent: 3 alone.
 pub internode-children : (x : Internode) (target : ℕ)
     → AsRuled ((3 unless good x) ∷ []) (childFor x target ∷ []) [] (childSaid x target)
 unfolding childSaid listedAbove
@@ -133,15 +90,17 @@ abbrev pub insertRules : Internode → ℕ → ℕ → List Rule
 insertRules x p ikey =
     (3 unless good x) ∷ (4 unless leb p (x .n)) ∷ (5 unless ltb (x .n) 15) ∷ (9 unless rising (insertedAt p ikey (keysOf x))) ∷ []
 
+-- An insertion hands the node back, with the ikey and the child or as it was.
 pub internode-insertions : (x : Internode) (p ikey child : ℕ)
     → AsRuled (insertRules x p ikey) (numbers (inserted x p ikey child)) (numbers x) (insertSaid x p ikey child)
 unfolding insertSaid listedAbove
 internode-insertions x p ikey child = as-ruled tt
 
--- The search of a leaf: 3 for the leaf, 7 for the key, 10 for the lent lengths (`searchRules`); refused, the word as given.
+-- The search of a leaf: 3 for the leaf, 7 for the key, 10 for the lent lengths (`searchRules`); refused, the word
+-- and the key's three numbers come back.
 pub leaf-searches : (word : ℕ) (entries : List Entry) (cells bytes key : List ℕ) (ikey shifts start : ℕ)
     → AsRuled (searchRules word entries cells bytes key ikey shifts start)
-    (outcome word entries cells bytes key ikey (classAt key (8 * shifts)) start) (word ∷ [])
+    (outcome word entries cells bytes key ikey (classAt key (8 * shifts)) start) (givenBack word ikey shifts start)
     (searchSaid word entries cells bytes key ikey shifts start)
 unfolding searchSaid listedAbove
 leaf-searches word entries cells bytes key ikey shifts start = as-ruled tt
@@ -149,7 +108,7 @@ leaf-searches word entries cells bytes key ikey shifts start = as-ruled tt
 -- The same over entries that are lent: another number of them than fifteen is a wrong lent length.
 pub lent-leaf-searches : (word : ℕ) (entries : List Entry) (cells bytes key : List ℕ) (ikey shifts start : ℕ)
     → AsRuled (lentSearchRules word entries cells bytes key ikey shifts start)
-    (outcome word entries cells bytes key ikey (classAt key (8 * shifts)) start) (word ∷ [])
+    (outcome word entries cells bytes key ikey (classAt key (8 * shifts)) start) (givenBack word ikey shifts start)
     (lentSearchSaid word entries cells bytes key ikey shifts start)
 unfolding lentSearchSaid listedAbove
 lent-leaf-searches word entries cells bytes key ikey shifts start = as-ruled tt
@@ -162,6 +121,7 @@ pub lent-lengths : (nodes cells bytes : ℕ)
 unfolding measured listedAbove
 lent-lengths nodes cells bytes = as-ruled tt
 
+-- The audit tells nothing but whether memory is a tree.
 pub audits : (m : Memory) → AsRuled ((10 unless isTree m) ∷ []) [] [] (audited m)
 unfolding audited listedAbove
 audits m = as-ruled tt
@@ -175,16 +135,18 @@ pub record KeepsMemory (rules : List Rule) (values : List ℕ) (m : Memory) (d :
 abbrev pub clearRules : Memory → List Rule
 clearRules m = (10 unless rightLengths (length (m .nodes)) (length (m .cells)) (length (m .bytes))) ∷ []
 
+-- Refused, every word and byte is as it was.
 pub clears : (m : Memory) → KeepsMemory (clearRules m) [] m (cleared m)
 unfolding listedAbove
 clears m = record { ruled = subst (AsRuled (clearRules m) [] []) (sym (clear-says m)) (as-ruled tt); kept = clear-kept m }
 
--- ---- the index
+-- ---- the index: what `isTree`, `stored`, `frameOf` and `inKeyOrder` mean on any lent memory stands in Meaning.antt, and `hasRoom` in Demand2.antt
 
 -- Find and the k-th entry change no byte: 7, 10, 12; and 10, 12.
 abbrev pub findRules : Memory → List ℕ → List Rule
 findRules m key = (7 unless leb (length key) 256) ∷ (10 unless isTree m) ∷ (12 unless index.stored m key) ∷ []
 
+-- Find tells the frame number.
 pub finds : (m : Memory) (key : List ℕ) → AsRuled (findRules m key) (index.frameOf m (index.place m key)) [] (index.findSaid m key)
 unfolding index.findSaid listedAbove
 finds m key = as-ruled tt
@@ -193,6 +155,7 @@ finds m key = as-ruled tt
 abbrev pub kthRules : Memory → ℕ → List Rule
 kthRules m k = (10 unless isTree m) ∷ (12 unless ltb k (length (index.inKeyOrder m))) ∷ []
 
+-- The k-th entry is told by its cell, the length of its key and its frame number.
 pub kths : (m : Memory) (k : ℕ) → AsRuled (kthRules m k) (index.entryOf m (getD (index.inKeyOrder m) k 0)) [] (index.kthSaid m k)
 unfolding index.kthSaid listedAbove
 kths m k = as-ruled tt
@@ -207,6 +170,7 @@ abbrev pub putRules : Memory → List ℕ → List Rule
 putRules m key =
     (7 unless leb (length key) 256) ∷ (10 unless isTree m) ∷ (11 unless not (index.stored m key)) ∷ (13 unless index.hasRoom m key) ∷ []
 
+-- Refused, every word and byte is as it was.
 pub puts : (m : Memory) (key : List ℕ) (frame : ℕ) → KeepsMemory (putRules m key) [] m (index.putDone m key frame)
 unfolding index.putDone listedAbove
 puts m key frame = record { ruled = as-ruled tt; kept = kept-if-refused (index.putSaid m key) _ m }

@@ -4,14 +4,13 @@
 -- `comparedByLayers` uses the calls on keys alone, by what their contracts promise: both keys are made with `new`, compared at
 -- their layer with `compare`, and while they are equal there and both longer, moved on with `shift`. `bytewise` is the plain
 -- order: the first differing byte decides, else the shorter key is less. 0 stands for less, 1 for equal, 2 for greater.
-use Prim.Native.Nat.{ℕ, _≤_}
-use mathlib.Core.Path.{_≡_, sym}
+use Prim.Native.Nat.{ℕ, _+_, _≤_}
+use mathlib.Core.Path.{_≡_, sym, ap, _∙_}
 use mathlib.Core.Logic.{_≢_}
-use mathlib.Core.Bool.{true, false}
 use mathlib.Core.List.{List, [], _∷_}
-use mathlib.Core.Option.{some}
+use mathlib.Core.Option.{none, some}
 use lib.Dec.{T}
-use lib.ListN.{length, drop}
+use lib.ListN.{length}
 use Rattle.refusal.specs.Answer.{accepted}
 use Rattle.order.specs.Bytes.{Bytes, bytewise}
 use Rattle.ikey.specs.Said.{place, compareKeysSaid}
@@ -19,15 +18,21 @@ use Rattle.key.specs.Layers.{comparedByLayers}
 use Rattle.key.proofs.Layers as laws
 use Rattle.order.specs.Map as map
 use Rattle.order.specs.Map.{All, Rising}
-use Rattle.arena.specs.Free.{freeNodes, freeCells}
-use Rattle.arena.specs.Memory.{Memory, emptied}
+use Rattle.arena.specs.Memory.{Memory, rightLengths, emptied}
 use Rattle.forest.specs.IsTree.{Layers, IsTree, listing}
 use Rattle.forest.specs.Walk.{isTree}
-use Rattle.model.specs.Calls.{stored, hasRoom, needed, with, nodesOf, cellsOf}
-use Rattle.as_map.specs.Calls.{Call, put, kth, entry, refused, heard, answers, leftAfter, OfBytes, LacksRoom}
+use Rattle.model.specs.Calls.{nodesOf, cellsOf}
+use Rattle.puts.specs.Needed.{neededNodes, lentMore}
+use Rattle.as_map.specs.Calls.{Call, clear, put, kth, done, entry, refused, heard, left, answers, leftAfter, OfBytes}
+use Rattle.as_map.specs.Calls.{roomFor, rooms, LacksRoom, Took}
 use Rattle.as_map.specs.Map.{mapAnswers, mapAfter}
+use Rattle.places.proofs.Found as found
+use Rattle.puts.proofs.Needed as needs
+use Rattle.puts.proofs.MoreLent as more
+use Rattle.as_map.proofs.Says as says
+use Rattle.as_map.proofs.Leaves as leaves
+use Rattle.as_map.proofs.Room as room
 use Rattle.as_map.proofs.Index as index
-use Rattle.puts.proofs.Puts as puts
 
 -- Layer by layer, as their bytes do.
 pub keys-compare : (a b : List ℕ) → Bytes a → Bytes b → length a ≤ 256 → length b ≤ 256
@@ -41,48 +46,78 @@ whole-keys-compare a b p q h l = sym (laws.whole-by-layers a b h l p q)
 
 -- ---- the index
 --
--- `heard m call` is what the caller of `put`, `find`, `remove` or `kth` hears, by what their contracts promise (crates/model/specs/Calls.antt),
--- and `left m call` the memory that the call leaves; `emptied n c` is what `clear` leaves of n nodes and c cells. `mapSays` and `mapLeft`
--- are the same for a sorted map from keys to frame numbers, where `room` says that nodes and cells enough are free.
+-- `heard m call` is what the caller of `clear`, `put`, `find`, `remove` or `kth` hears, by what their contracts promise
+-- (crates/model/specs/Calls.antt), and `left m call` the memory that the call leaves; `emptied n c` is what clear leaves of n nodes and c
+-- cells. `rooms m calls` is what each call finds free, and the nodes that it needs. `mapAnswers` and `mapAfter` are the same calls on a
+-- sorted map from keys to frame numbers: of the memory the map is told no more than that.
 
--- After a clear, any list of calls, refused ones among them, hears what a sorted map says.
+-- Clear is accepted on any lent memory of right lengths, a bad one too, and leaves it empty and good, whatever stood there.
+pub clears-any : (m : Memory) → T (rightLengths (length (m .nodes)) (length (m .cells)) (length (m .bytes)))
+    → (heard m clear ≡ done) × (left m clear ≡ emptied (nodesOf m) (cellsOf m))
+clears-any m lent = (says.clear-says m lent, leaves.clear-left m lent)
+
+-- After a clear, any list of calls, refused ones and clears among them, hears what a sorted map says.
 pub index-is-map : (n c : ℕ) → 1 ≤ n → n ≤ 255 → 1 ≤ c → c ≤ 255 → {calls : List Call} → All OfBytes calls
-    → answers (emptied n c) calls ≡ mapAnswers (emptied n c) [] calls
+    → answers (emptied n c) calls ≡ mapAnswers (rooms (emptied n c) calls) [] calls
 index-is-map n c n-low n-high c-low c-high of-bytes = index.index-is-map n c n-low n-high c-low c-high of-bytes
 
-module _ (n c : ℕ) (n-low : 1 ≤ n) (n-high : n ≤ 255) (c-low : 1 ≤ c) (c-high : c ≤ 255) {calls : List Call} (of-bytes : All OfBytes calls) where
-  -- What clear and accepted calls leave is a tree by the rules, and never gets refusal 10.
+module _ (n c : ℕ) (n-low : 1 ≤ n) (n-high : n ≤ 255) (c-low : 1 ≤ c) (c-high : c ≤ 255) {calls : List Call}
+    (of-bytes : All OfBytes calls) where
+  -- What clear and accepted calls leave is a tree by the rules,
   pub always-a-tree : T (isTree (leftAfter (emptied n c) calls))
   always-a-tree = index.always-tree n c n-low n-high c-low c-high of-bytes
 
+  -- and never gets refusal 10.
   pub never-10 : All (λ h. h ≢ refused 10) (answers (emptied n c) calls)
   never-10 = index.never-10 n c n-low n-high c-low c-high of-bytes
 
-  -- The listing is the whole map, in order.
+  -- The listing is the whole map,
   pub listing-is-map : (v : Layers) → IsTree (leftAfter (emptied n c) calls) v
-      → listing (leftAfter (emptied n c) calls) v ≡ mapAfter (emptied n c) [] calls
+      → listing (leftAfter (emptied n c) calls) v ≡ mapAfter (rooms (emptied n c) calls) [] calls
   listing-is-map v t = index.listing-is-map n c n-low n-high c-low c-high of-bytes v t
 
-  pub map-rises : Rising (mapAfter (emptied n c) [] calls)
+  -- in the order of its keys, each once.
+  pub map-rises : Rising (mapAfter (rooms (emptied n c) calls) [] calls)
   map-rises = index.map-rises n c n-low n-high c-low c-high of-bytes
 
-  -- kth k is the k-th of it, and 12 past the last.
-  pub kth-of-map : (k : ℕ) (key : List ℕ) (x : ℕ) → map.kth k (mapAfter (emptied n c) [] calls) ≡ some (key, x)
+  -- The k-th entry is the k-th of it,
+  pub kth-of-map : (k : ℕ) (key : List ℕ) (x : ℕ) → map.kth k (mapAfter (rooms (emptied n c) calls) [] calls) ≡ some (key, x)
       → heard (leftAfter (emptied n c) calls) (kth k) ≡ entry key x
   kth-of-map k key x e = index.kth-heard n c n-low n-high c-low c-high of-bytes k key x e
 
-  pub kth-past : (k : ℕ) → length (mapAfter (emptied n c) [] calls) ≤ k → heard (leftAfter (emptied n c) calls) (kth k) ≡ refused 12
+  -- and 12 past the last.
+  pub kth-past : (k : ℕ) → length (mapAfter (rooms (emptied n c) calls) [] calls) ≤ k
+      → heard (leftAfter (emptied n c) calls) (kth k) ≡ refused 12
   kth-past k h = index.kth-past n c n-low n-high c-low c-high of-bytes k h
 
--- 13 is given exactly when the key is new and the put needs more nodes or cells than are free (`LacksRoom`, with `needed`), on any lent memory
--- that is a tree.
-pub room-exactly : (m : Memory) (key : List ℕ) (x : ℕ)
-    → (heard m (put key x) ≡ refused 13 → LacksRoom m key) × (LacksRoom m key → heard m (put key x) ≡ refused 13)
-room-exactly m key x = index.room-exactly m key x
+-- ---- room, on any lent memory that is a tree v, whatever was called before
+--
+-- `neededNodes m v key` (crates/puts/specs/Needed.antt) counts the nodes as document 01 does: one per split node, one more for a new root
+-- of that layer, one per new layer. It is a count on the tree and the keys in its cells alone.
 
--- And `needed` is what the put takes: the lowest free nodes, and one cell.
-pub put-takes : (m : Memory) (v : Layers) → IsTree m v → Bytes (m .bytes) → (key : List ℕ) → Bytes key → length key ≤ 256 → (frame : ℕ)
-    → stored m key ≡ false → hasRoom m key ≡ true
-    → (freeNodes (with m key frame .nodes) (nodesOf m) ≡ drop (needed m key) (freeNodes (m .nodes) (nodesOf m)))
-    × (freeCells (with m key frame .cells) (cellsOf m) ≡ drop 1 (freeCells (m .cells) (cellsOf m)))
-put-takes m v t bytes key b short frame absent room = puts.put-takes m v t bytes key b short frame absent room
+module _ (m : Memory) (v : Layers) (t : IsTree m v) (bytes : Bytes (m .bytes)) (key : List ℕ) (b : Bytes key) (x : ℕ) where
+  -- 13 is given exactly when the key is new and no cell is free, or fewer nodes are free than are needed.
+  pub room-exactly : (heard m (put key x) ≡ refused 13 → LacksRoom m v key) × (LacksRoom m v key → heard m (put key x) ≡ refused 13)
+  room-exactly = (room.put-lacks m v t bytes key b x, room.lacks-put m v t bytes key b x)
+
+  -- An accepted put takes what is needed: the lowest free nodes, as many as that, and the lowest free cell.
+  pub put-takes : heard m (put key x) ≡ done → Took m v key (left m (put key x))
+  put-takes e = room.put-took m v t bytes key b x e
+
+  module _ (short : length key ≤ 256) (new : map.lookup bytewise key (listing m v) ≡ none) where
+    -- What the put counts on its one way down is that number.
+    pub needed-as-said : roomFor m (put key x) .nodes-needed ≡ neededNodes m v key
+    needed-as-said = needs.needed-as-said m v t bytes key b short (found.stored-lookup m v t bytes key b ∙ ap found.isSome new)
+
+    -- It does not depend on what is free: with more free nodes lent, memory is the same tree, and the need is the same.
+    pub same-need : (k : ℕ) → nodesOf m + k ≤ 255
+        → IsTree (lentMore m k) v × (roomFor (lentMore m k) (put key x) .nodes-needed ≡ roomFor m (put key x) .nodes-needed)
+    same-need k few = (
+      more.more-lent m v t k few,
+      more.same-need m v t k few bytes key b short (found.stored-lookup m v t bytes key b ∙ ap found.isSome new),
+    )
+
+-- So the first put after a clear is accepted, however little is lent.
+pub first-put : (n c : ℕ) → 1 ≤ n → n ≤ 255 → 1 ≤ c → c ≤ 255 → (key : List ℕ) → Bytes key → length key ≤ 256 → (x : ℕ)
+    → heard (emptied n c) (put key x) ≡ done
+first-put n c n-low n-high c-low c-high key b short x = room.first-put n c n-low n-high c-low c-high key b short x

@@ -25,7 +25,7 @@ use Rattle.slot_answers.specs.declared.Inserted.the-variants as I
 use Rattle.permuter.specs.Words.{changed, madeSorted}
 use Rattle.permuter.specs.Answers.{saidInserted}
 use Rattle.leaf_entries.specs.declared.Entry.{Entry}
-use Rattle.leaf.specs.Leaf.{none, rank, slotsOf, inUse, less}
+use Rattle.leaf.specs.Leaf.{none, rank, slotsOf, less}
 use Rattle.leaf.specs.Search.{placeGreater}
 use Rattle.leaf.specs.Cut.{ikeyOf, differs, outward, cutOf}
 use Rattle.leaf.proofs.Lists.{getD-map, first-at, first-none, map-append}
@@ -33,46 +33,30 @@ use Rattle.lent_nodes.specs.declared.inside.Leaf.{Leaf}
 use Rattle.arena.specs.Parts.{zeros}
 use Rattle.arena.specs.Layout.{wordAt, putLeaf}
 use Rattle.forest.specs.Nodes.{entryAt, entriesAt}
+use Rattle.forest.proofs.InUse.{entries-length, entry-here}
 use Rattle.model.specs.declared.Grown.{Grown}
 use Rattle.model.specs.declared.Grown.the-variants.{One, Two}
 use Rattle.model.specs.Leaves.{freshNode, entryPut, leafWith, fifteenAt, entryAdded, leafSplit, leafGrown}
 
 -- ---- the place where an entry belongs
 
-module _ (nodes : List ℕ) (k word : ℕ) (w : word ≡ wordAt nodes k 1) where
-  in-width : word % 16 ≤ length (slotsOf word .slots)
-  in-width = omega (arith, length-nibbles 15 (word / 16))
-
-  used : entriesAt nodes k ≡ map (entryAt nodes k) (inUse (slotsOf word))
-  unfolding entriesAt
-  used = ap (λ (x : ℕ). map (entryAt nodes k) (inUse (slotsOf x))) (sym w)
-
-  used-length : length (entriesAt nodes k) ≡ word % 16
-  used-length =
-      ap length used ∙ length-map (inUse (slotsOf word)) (entryAt nodes k)
-      ∙ length-take-le (word % 16) (slotsOf word .slots) in-width
-
-  used-at : (i : ℕ) {slot : ℕ} → i < word % 16 → slot ≡ slotAt i (slotsOf word) → getD (entriesAt nodes k) i none ≡ entryAt nodes k slot
-  used-at i {slot} l e =
-      ap (λ (es : List Entry). getD es i none) used
-      ∙ getD-map (entryAt nodes k) (inUse (slotsOf word)) i 0 none
-      (let z : i < length (inUse (slotsOf word)) = rw (length-take-le (word % 16) (slotsOf word .slots) in-width) l in z)
-      ∙ ap (entryAt nodes k) (getD-take (word % 16) (slotsOf word .slots) i 0 l ∙ sym e)
-
+module _ (nodes : List ℕ) (k word : ℕ) {size : ℕ} (w : word ≡ wordAt nodes k 1) (z : size ≡ word % 16) where
   module _ (e : Entry) (i : ℕ) (f : (j : ℕ) → j < i → less e (getD (entriesAt nodes k) j none) ≡ false) where
-    module _ {slot : ℕ} {d : Entry} {r : Bool} (l : i < word % 16) (es : slot ≡ slotAt i (slotsOf word)) (ed : d ≡ entryAt nodes k slot) (er : r ≡ less e d) where
+    module _ {slot : ℕ} {d : Entry} {r : Bool} (l : i < size) (es : slot ≡ slotAt i (slotsOf word)) (ed : d ≡ entryAt nodes k slot) (er : r ≡ less e d) where
       here : less e (getD (entriesAt nodes k) i none) ≡ r
-      here = ap (less e) (used-at i l es ∙ sym ed) ∙ sym er
+      here = ap (less e) (entry-here nodes k word w i (omega arith) es ∙ sym ed) ∙ sym er
 
       pub greater-here : r ≡ true → i ≡ placeGreater (e .ikey) (rank e) (entriesAt nodes k)
-      greater-here t = first-at (less e) none (entriesAt nodes k) i (omega (arith, used-length)) f (here ∙ t)
+      greater-here t =
+          first-at (less e) none (entriesAt nodes k) i (omega (arith, entries-length nodes k word w)) f (here ∙ t)
 
       pub greater-next : r ≡ false → (j : ℕ) → j < i + 1 → less e (getD (entriesAt nodes k) j none) ≡ false
       greater-next t = below-more _ i f (here ∙ t)
 
-    pub greater-none : word % 16 ≤ i → word % 16 ≡ placeGreater (e .ikey) (rank e) (entriesAt nodes k)
+    pub greater-none : size ≤ i → size ≡ placeGreater (e .ikey) (rank e) (entriesAt nodes k)
     greater-none l =
-        sym used-length ∙ first-none (less e) none (entriesAt nodes k) (λ j h. f j (omega (arith, used-length)))
+        z ∙ sym (entries-length nodes k word w)
+        ∙ first-none (less e) none (entriesAt nodes k) (λ j h. f j (omega (arith, entries-length nodes k word w)))
 
 -- ---- columns of a leaf
 

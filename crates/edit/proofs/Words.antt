@@ -1,8 +1,7 @@
 -- A law for each way in which a word, an entry or a slot word of a node is changed. Assumes nothing.
 use Prim.Native.Nat.{ℕ, _+_, _*_, _≤_, _<_}
-use mathlib.Core.Path.{_≡_, refl, sym, ap, _∙_}
-use mathlib.Core.List.{List, [], _∷_}
-use native.Mathlib.Omega.{arith}
+use mathlib.Core.Path.{_≡_, sym, ap, _∙_}
+use mathlib.Core.List.{List}
 use lib.ListN.{length, getD, set}
 use lib.Seq.{set-out}
 use borrow.Author.Needs.{needs}
@@ -21,8 +20,8 @@ use Rattle.leaf.specs.Leaf.{none, slotsOf}
 use Rattle.lent_nodes.specs.declared.inside.Lowest.{Lowest}
 use Rattle.lent_nodes.specs.declared.inside.Lowest.the-variants.{At, Nothing}
 use Rattle.arena.specs.Layout.{wordAt, nodeStart}
-use Rattle.arena.specs.Free.{isFree, freeNodes, lowest}
-use Rattle.arena.proofs.Frees.{first-passing}
+use Rattle.arena.specs.Free.{freeNodes, lowest}
+use Rattle.lent_nodes.proofs.Counts.{lowest-first, lowest-none, lowest-free}
 use Rattle.model.specs.Leaves.{freshNode, entryPut, entryTaken}
 
 -- a place past the end takes no word
@@ -31,32 +30,16 @@ put-past ws at w h = sym (set-out ws at w h)
 
 -- ---- the lowest free node
 
-none-told : {k : ℕ} → At k ≡ Nothing → ⊥
-none-told e = let z : _≡_ {A = ℕ} 0 1 = cc in omega arith
-
 module _ (nodes : List ℕ) (count : ℕ) {r : Lowest} (e : r ≡ lowest (freeNodes nodes count)) where
   pub fresh-at : {k : ℕ} → r ≡ At k → k ≡ freshNode nodes count
-  fresh-at {k} a = by (freeNodes nodes count) (sym a ∙ e)
-    where
-      by : (ks : List ℕ) → At k ≡ lowest ks → k ≡ getD ks 0 0
-      by [] d = absurd (none-told d)
-      by (x ∷ ks) d = cc
+  fresh-at a =
+      let (rest, q) = lowest-first (freeNodes nodes count) (sym e ∙ a) in sym (ap (λ (ks : List ℕ). getD ks 0 0) q)
 
   pub fresh-none : r ≡ Nothing → 0 ≡ freshNode nodes count
-  fresh-none a = by (freeNodes nodes count) (sym a ∙ e)
-    where
-      by : (ks : List ℕ) → Nothing ≡ lowest ks → 0 ≡ getD ks 0 0
-      by [] d = refl
-      by (x ∷ ks) d = absurd (none-told (sym d))
+  fresh-none a = sym (ap (λ (ks : List ℕ). getD ks 0 0) (lowest-none (freeNodes nodes count) (sym e ∙ a)))
 
   pub fresh-lt : {k : ℕ} → r ≡ At k → k < count
-  fresh-lt {k} a = by (freeNodes nodes count) refl (sym a ∙ e)
-    where
-      by : (ks : List ℕ) → freeNodes nodes count ≡ ks → At k ≡ lowest ks → k < count
-      by [] f d = absurd (none-told d)
-      by (x ∷ ks) f d =
-          let q : k ≡ x = cc in
-          omega (arith, first-passing (isFree nodeStart nodes) 0 count f .high)
+  fresh-lt a = lowest-free nodeStart nodes count (sym e ∙ a) .in-range
 
 -- ---- entries
 

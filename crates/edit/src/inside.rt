@@ -17,6 +17,7 @@ use arena::inside::Leaf;
 use arena::inside::Lowest;
 use internode::Internode;
 use leaf::Entry;
+use leaf::inside::size_of;
 use model::Grown;
 use node_words::inside::entry_of;
 use node_words::inside::slot_of;
@@ -97,7 +98,7 @@ pub fn place_greater(nodes: &[u64], k: usize, e: Entry) -> usize
     ensures { λ r. ⌜ (r ≡ placeGreater (e .ikey) (rank e) (entriesAt (now (nodes .entry)) k)) × (r ≤ 15) ⌝ }
 {
     let word = word_of(nodes, k as u64, 1);
-    let size = (word % 16) as usize;
+    let size = size_of(word);
     let mut i: usize = 0;
     while i < size {
         let d = entry_of(nodes, k as u64, slot_of(word, i));

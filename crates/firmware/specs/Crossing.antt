@@ -6,6 +6,7 @@ use mathlib.Core.List.{List}
 use lib.Dec.{eqb}
 use Rattle.refusal.specs.Answer.{Answer}
 
+-- these values where the test holds, else what stood there before
 abbrev pub writtenIf : Bool → List ℕ → List ℕ → List ℕ
 writtenIf true values before = values
 writtenIf false values before = before

@@ -17,7 +17,7 @@ use Rattle.nibbles.specs.Nibbles.{nibbles}
 use Rattle.nibbles.specs.Words.{validWord}
 use Rattle.arena.specs.Parts.{part, putPart, zeros}
 use Rattle.arena.specs.Layout.{keyStart, cellStart, leafWords}
-use Rattle.arena.specs.Memory.{emptyLeaf, emptied}
+use Rattle.arena.specs.Memory.{cellCount, emptyLeaf, emptied}
 use Rattle.arena.proofs.Measures.{Right, right-if, counts-follow}
 use Rattle.arena.proofs.Clears.{emptied-length, emptied-root, emptied-free}
 use Rattle.forest.specs.Nodes.{allZero, entriesAt, restAt, leafRight, nodeFree}
@@ -33,7 +33,7 @@ unfolding every
 zeros-zero zero = refl
 zeros-zero (suc n) = zeros-zero n
 
-part-zero : (n at k : ℕ) → allZero (part (zeros n) at k) ≡ true
+pub part-zero : (n at k : ℕ) → allZero (part (zeros n) at k) ≡ true
 unfolding part
 part-zero n at k = every-take (λ x. eqb x 0) 0 k _ (every-drop (λ x. eqb x 0) 0 at (zeros n) (zeros-zero n))
 
@@ -71,15 +71,19 @@ module _ (n c : ℕ) (some-nodes : 1 ≤ n) (few-nodes : n ≤ 255) (some-cells 
     bytes-whole = length-replicate (c * 256) 0;
   }
 
+  -- as many cells as were lent
+  pub cells-lent : cellCount (length (emptied n c .cells)) ≡ c
+  cells-lent = counts-follow right .1
+
   -- one empty leaf, in node 0
-  abbrev nothing : Layers
+  abbrev pub nothing : Layers
   nothing = ((0, (0, [])), [])
 
   only-first : (k : ℕ) → once (nodeNo 0) (nodeNo k) + 0 ≡ 0 → 1 ≤ k
   only-first zero e = absurd (omega (arith, once-same 0))
   only-first (suc k) e = omega arith
 
-  nothing-is : IsTree (emptied n c) nothing
+  pub nothing-is : IsTree (emptied n c) nothing
   unfolding nodeFree cellFree
   nothing-is = record {
     lent = holds (right-if _ _ _ n c right);

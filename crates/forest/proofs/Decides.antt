@@ -13,6 +13,7 @@ use lib.ListN.{length, getD, set, length-set, List·getD-eq-default}
 use lib.Seq.{getD-set-same, getD-set-other}
 use borrow.Author.Tests.{eq-eqb, ne-eqb}
 use Rattle.bank.proofs.Tests.{is-true}
+use Rattle.order.proofs.Lookup.{same-some}
 use Rattle.arena.proofs.Words.{lt-or-ge}
 use Rattle.forest.specs.Trees.{once}
 use Rattle.forest.specs.Walk.{Seen, Step, when, andThen, each, see}
@@ -107,15 +108,12 @@ then-some : {A : Type 0} (o : Option A) (f : A → Option A) {x : A} → andThen
 then-some none f e = let z : _≡_ {A = ℕ} 0 1 = cc in absurd (omega arith)
 then-some (some y) f e = (y, refl, e)
 
-some-same : {A : Type 0} {x y : A} → some x ≡ some y → x ≡ y
-some-same e = cc
-
 pub see-decides : (n : ℕ) → Decides (see n) (Unit {0}) (λ _. once n)
 unfolding see
 see-decides n = record {
   sound = λ seen after e.
       let (b, q) = when-some (eqb (mark seen n) 0) (some (set seen n 1)) e in
-      (tt, subst (Adds seen (once n)) (some-same q) (set-adds seen n (eqb→eq _ _ b)));
+      (tt, subst (Adds seen (once n)) (same-some q) (set-adds seen n (eqb→eq _ _ b)));
   complete = λ seen y fits.
       let e : mark seen n ≡ 0 = omega (arith, fits n, once-same n) in
       (set seen n 1, rw e, set-adds seen n e);
@@ -173,7 +171,7 @@ module _ {X : Type 0} where
       → (xs : List X) → Decides (each go xs) (Each Y xs) (sumEach c xs)
   unfolding each
   each-decides D [] = record {
-    sound = λ seen after e. (tt, subst (Adds seen (λ i. 0)) (some-same e) (nothing seen));
+    sound = λ seen after e. (tt, subst (Adds seen (λ i. 0)) (same-some e) (nothing seen));
     complete = λ seen y fits. (seen, refl, nothing seen);
   }
     where

@@ -1,47 +1,38 @@
 -- A tree's height is found by first children, and a tree that reaches no node twice is less high than there are nodes.
 -- Assumes nothing.
 use mathlib.Core.Path.{_≡_, refl}
-use mathlib.Core.List.{List, [], map}
+use mathlib.Core.Bool.{Bool, true, false, cond}
+use mathlib.Core.List.{List, map}
 use Prim.Native.Nat.{ℕ, zero, suc, _+_, _*_, _≤_, _<_}
 use native.Mathlib.Omega.{arith}
-use native.Mathlib.Decide.{ℕ-discrete}
+use lib.Dec.{eqb}
 use lib.ListN.{length, getD}
 use Rattle.order.specs.Map.{All, _a∷_}
 use Rattle.order.specs.Lists.{total}
+use Rattle.order.proofs.Sums.{sumBelow, sum-plus, sum-less, sum-most, sum-part}
 use Rattle.forest.specs.Trees.{Tree, topOf, nodeNo, once, nodesOf, Holds, Between, last, next, Bounded}
+use Rattle.arena.specs.Layout.{kindAt}
+use Rattle.forest.specs.Nodes.{childrenAt}
 use Rattle.forest.specs.Walk.{heightAt}
 use Rattle.forest.proofs.Decides.{once-same}
 use Rattle.forest.proofs.Inside.{leaf-kind, internode-kind, leaf-inside, internode-inside}
-
--- ---- sums over the numbers below n
-
-abbrev sumBelow : ℕ → (ℕ → ℕ) → ℕ
-sumBelow zero f = 0
-sumBelow (suc n) f = f n + sumBelow n f
-
-sum-plus : (n : ℕ) (f g : ℕ → ℕ) → sumBelow n (λ k. f k + g k) ≡ sumBelow n f + sumBelow n g
-sum-plus zero f g = refl
-sum-plus (suc n) f g = omega (arith, sum-plus n f g)
-
-sum-less : (n : ℕ) (f g : ℕ → ℕ) → ((k : ℕ) → f k ≤ g k) → sumBelow n f ≤ sumBelow n g
-sum-less zero f g h = omega arith
-sum-less (suc n) f g h = omega (arith, h n, sum-less n f g h)
-
-sum-most : (n : ℕ) (f : ℕ → ℕ) → ((k : ℕ) → f k ≤ 1) → sumBelow n f ≤ n
-sum-most zero f h = omega arith
-sum-most (suc n) f h = omega (arith, h n, sum-most n f h)
 
 -- node k is one of the first n
 abbrev nodeOnce : ℕ → ℕ → ℕ
 nodeOnce k j = once (nodeNo k) (nodeNo j)
 
 sum-once : (n k : ℕ) → k < n → 1 ≤ sumBelow n (nodeOnce k)
-sum-once zero k h = absurd (omega arith)
-sum-once (suc n) k h = go (ℕ-discrete k n) (sum-once n k)
+sum-once n k h = omega (arith, sum-part n k (nodeOnce k) h, once-same (nodeNo k))
+
+-- no height is more than what it was looked for in
+pub height-most : (nodes : List ℕ) (most n : ℕ) → heightAt nodes most n ≤ most
+unfolding heightAt
+height-most nodes zero n = omega arith
+height-most nodes (suc most) n = by (eqb (kindAt nodes n) 2) (height-most nodes most (getD (childrenAt nodes n) 0 0))
   where
-    go : Dec (k ≡ n) → (k < n → 1 ≤ sumBelow n (nodeOnce k)) → 1 ≤ nodeOnce k n + sumBelow n (nodeOnce k)
-    go (yes e) r = rw (← e) (omega (arith, once-same (nodeNo k)))
-    go (no ne) r = omega (arith, r (omega arith))
+    by : (b : Bool) {h : ℕ} → h ≤ most → cond b (suc h) 0 ≤ suc most
+    by true l = omega arith
+    by false l = omega arith
 
 module _ (nodes : List ℕ) where
   -- the first child of an internode

@@ -1,3 +1,4 @@
+pub mod InUse
 pub mod Decides
 pub mod Witnesses
 pub mod Inside

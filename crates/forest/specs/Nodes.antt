@@ -61,11 +61,11 @@ leafRight nodes k =
 abbrev pub countAt : List ℕ → ℕ → ℕ
 countAt nodes k = wordAt nodes k 1
 
--- its ikeys, and its children, one more
+-- its ikeys
 unfoldable pub ikeysAt : List ℕ → ℕ → List ℕ
 ikeysAt nodes k = part nodes (nodeStart k + 2) (countAt nodes k)
 
--- the children of an internode, one more than its ikeys
+-- its children, one more than its ikeys
 unfoldable pub childrenAt : List ℕ → ℕ → List ℕ
 childrenAt nodes k = part nodes (nodeStart k + 17) (countAt nodes k + 1)
 

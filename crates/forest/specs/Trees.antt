@@ -69,7 +69,7 @@ Holds nodes (suc h) t =
     × (childrenAt nodes (t .0) ≡ map (λ p. topOf h (p .1)) (t .1))
     × All (λ p. Holds nodes h (p .1)) (t .1)
 
--- ---- bounds: an edge is an ikey and one; 0 where nothing is to the left, 2^64 + 1 where nothing is to the right
+-- ---- bounds: an edge is an ikey plus 1; 0 where nothing is to the left, 2^64 + 1 where nothing is to the right
 
 -- the edge where nothing is to the left
 abbrev pub leftmost : ℕ

@@ -37,9 +37,9 @@ module _ (nodes : List ℕ) (ikey h n taken : ℕ) {all : ℕ} (e : all ≡ need
   unfolding needIn
   need-next l w m d = rw (d, m, w) (e ∙ ap (λ (i : ℕ). needIn nodes i n ikey taken) (let z : h ≡ suc (h - 1) = omega arith in z))
 
-  pub need-end : h ≤ 0 → {word more : ℕ} → word ≡ wordAt nodes n 1 → more ≡ splitToo (word % 16) taken → more ≡ all
+  pub need-end : h ≤ 0 → {word size more : ℕ} → word ≡ wordAt nodes n 1 → size ≡ word % 16 → more ≡ splitToo size taken → more ≡ all
   unfolding needIn
-  need-end l w m = rw (m, w) (sym (e ∙ ap (λ (i : ℕ). needIn nodes i n ikey taken) (let z : h ≡ 0 = omega arith in z)))
+  need-end l w z m = rw (m, z, w) (sym (e ∙ ap (λ (i : ℕ). needIn nodes i n ikey taken) (let z : h ≡ 0 = omega arith in z)))
 
 -- ---- layers
 

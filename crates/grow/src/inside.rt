@@ -9,6 +9,7 @@ ghost use Rattle.model.specs.Leaves.{leafWith};
 ghost use Rattle.model.specs.Needed.{splitToo, needIn, bothGoOn, layersOf};
 ghost use Rattle.model.specs.Grow.{nodeGrown, layerGrown, entryFor, inOrder, linkFor, bothPut, layersGrown};
 use leaf::Entry;
+use leaf::inside::size_of;
 use model::Grown;
 use node_words::inside::word_of;
 
@@ -27,7 +28,7 @@ pub fn need(nodes: &[u64], height: usize, root: u64, ikey: u64) -> usize
         n = seek::inside::child_for(nodes, n, ikey);
         h -= 1;
     }
-    split_too(word_of(nodes, n, 1) % 16, taken)
+    split_too(size_of(word_of(nodes, n, 1)) as u64, taken)
 }
 
 fn split_too(size: u64, taken: usize) -> usize

@@ -41,7 +41,7 @@ view-ikey e = by (eqb (e .class) 10)
     by true = refl
     by false = refl
 
-pair : {a b c d : ℕ} → a ≡ b → c ≡ d → _≡_ {A = IkeyClass} (a, c) (b, d)
+pub pair : {a b c d : ℕ} → a ≡ b → c ≡ d → _≡_ {A = IkeyClass} (a, c) (b, d)
 pair p q = λ i. (p i, q i)
 
 pub view-key : (e : Entry) → T (ofClass e) → viewOf e .0 ≡ (suc (e .ikey), rank e)

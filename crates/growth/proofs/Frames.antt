@@ -10,12 +10,11 @@ use lib.ListN.{length, getD, length-take, length-drop}
 use lib.Seq.{getD-take, getD-drop}
 use Rattle.bank.specs.Bank.{Bank}
 use Rattle.bank.proofs.Tests.{and-left, and-right, is-true, holds}
-use Rattle.bank.proofs.Counts.{slot-lt}
 use Rattle.nibbles.specs.Words.{validWord}
 use Rattle.nibbles.proofs.Nibbles.{length-nibbles}
 use Rattle.leaf.specs.Lists.{every}
 use Rattle.leaf.specs.Leaf.{inUse, slotsOf}
-use Rattle.leaf.proofs.Views.{good-word}
+use Rattle.leaf_entries.proofs.Views.{good-word, slot-fifteen}
 use Rattle.arena.specs.Parts.{part}
 use Rattle.arena.specs.Layout.{nodeStart, nodeAt, wordAt, kindAt}
 use Rattle.arena.proofs.Words.{part-ext, part-at}
@@ -24,18 +23,11 @@ use Rattle.forest.specs.Nodes.{allZero, nodeFree}
 use Rattle.forest.specs.Trees.{seenAs}
 use Rattle.trees.specs.Nodes.{free, leaf, internode}
 use Rattle.views.specs.Views.{entryView, nodeView, nodeSound}
+use Rattle.views.proofs.Nodes.{free-sound, leaf-sound, internode-sound}
 
 pub map-at : {A : Type 0} (f g : ℕ → A) (xs : List ℕ) → ((i : ℕ) → i < length xs → f (getD xs i 0) ≡ g (getD xs i 0)) → map f xs ≡ map g xs
 map-at f g [] h = refl
 map-at f g (x ∷ xs) h = ap₂ _∷_ (h 0 (omega arith)) (map-at f g xs (λ i l. h (suc i) (omega arith)))
-
-or-left : (a b : Bool) → T a → T (a || b)
-or-left true b t = tt
-or-left false b t = absurd t
-
-or-right : (a b : Bool) → T b → T (a || b)
-or-right true b t = tt
-or-right false b t = t
 
 -- ---- the slots of a valid word are 0 to 14
 
@@ -44,9 +36,7 @@ module _ (word : ℕ) (v : validWord 15 word ≡ true) where
   slots-wide = length-nibbles 15 (word / 16)
 
   pub slot-below : (i : ℕ) → i < 15 → getD (slotsOf word .slots) i 0 < 15
-  slot-below i l =
-      subst (λ (n : ℕ). getD (slotsOf word .slots) i 0 < n) slots-wide
-      (slot-lt (slotsOf word .slots) (good-word word v .once) i (omega (arith, slots-wide)))
+  slot-below i l = slot-fifteen word v i l refl
 
   pub size-most : slotsOf word .size ≤ 15
   size-most = good-word word v .sized
@@ -94,7 +84,7 @@ module _ (m m′ : List ℕ) (k : ℕ) where
           entry-same _ (rw (getD-drop (slotsAt m k .size) (slotsAt m k .slots) i 0)
           (slot-below (wordAt m k 1) v (slotsAt m k .size + i) (omega (arith, slots-wide (wordAt m k 1) v)))))
 
-    leaf-same : T (leafRight m k) → T (leafRight m′ k) × (entriesAt m′ k ≡ entriesAt m k)
+    pub leaf-same : T (leafRight m k) → T (leafRight m′ k) × (entriesAt m′ k ≡ entriesAt m k)
     unfolding leafRight
     leaf-same t =
         let v : validWord 15 (wordAt m k 1) ≡ true = is-true _
@@ -104,7 +94,7 @@ module _ (m m′ : List ℕ) (k : ℕ) where
     pub leaf-still : T (leafRight m k) → T (leafRight m′ k)
     leaf-still t = leaf-same t .0
 
-    internode-same : T (internodeRight m k) → T (internodeRight m′ k) × ((ikeysAt m′ k ≡ ikeysAt m k) × (childrenAt m′ k ≡ childrenAt m k))
+    pub internode-same : T (internodeRight m k) → T (internodeRight m′ k) × ((ikeysAt m′ k ≡ ikeysAt m k) × (childrenAt m′ k ≡ childrenAt m k))
     unfolding internodeRight ikeysAt childrenAt
     internode-same t =
         let n = countAt m k in
@@ -120,7 +110,7 @@ module _ (m m′ : List ℕ) (k : ℕ) where
         ap (λ (a : ℕ). part m′ a (29 - n)) z3 ∙ part-same (18 + n) (29 - n) (omega arith) ∙ ap (λ (a : ℕ). part m a (29 - n)) (sym z3) in
         (rw (kind-same, e1, e2, e4, e5) t, (rw (e1, e2), rw (e1, e3)))
 
-    free-same : T (nodeFree m k) → T (nodeFree m′ k)
+    pub free-same : T (nodeFree m k) → T (nodeFree m′ k)
     unfolding nodeFree
     free-same t =
         let z : nodeStart k + 0 ≡ nodeStart k = add-zero (nodeStart k) in
@@ -156,16 +146,13 @@ module _ (m : List ℕ) (k : ℕ) where
   internode-kind t = eqb→eq (kindAt m k) 2 (and-left (eqb (kindAt m k) 2) _ t)
 
   pub sound-free : T (nodeFree m k) → T (nodeSound m k)
-  unfolding nodeSound
-  sound-free t = or-left (nodeFree m k) (leafRight m k || internodeRight m k) t
+  sound-free t = free-sound m k t
 
   pub sound-leaf : T (leafRight m k) → T (nodeSound m k)
-  unfolding nodeSound
-  sound-leaf t = or-right (nodeFree m k) _ (or-left (leafRight m k) (internodeRight m k) t)
+  sound-leaf t = leaf-sound m k t
 
   pub sound-internode : T (internodeRight m k) → T (nodeSound m k)
-  unfolding nodeSound
-  sound-internode t = or-right (nodeFree m k) _ (or-right (leafRight m k) _ t)
+  sound-internode t = internode-sound m k t
 
   pub kind-of : nodeStart k + 47 ≤ length m → T (nodeSound m k) → Kind m k
   unfolding nodeSound

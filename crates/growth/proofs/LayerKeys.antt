@@ -19,6 +19,7 @@ use Rattle.trees.proofs.Paths.{layerKey-at, down-length}
 use Rattle.trees.proofs.EntriesPut.{fits-more, both-longer}
 use Rattle.leaf.proofs.Lists.{both, never}
 use Rattle.model.specs.Needed.{bothGoOn, layersOf}
+use Rattle.growth.proofs.Entries.{pair}
 
 suc-inj : {a b : ℕ} → suc a ≡ suc b → a ≡ b
 suc-inj e = omega arith
@@ -59,9 +60,6 @@ module _ (at : ℕ → List ℕ × ℕ) (l : ℕ) (ks K J : List ℕ) (fK : Fits
       let e : layerKey ks K ≡ layerKey ks J = layer-key ks K
       ∙ pair (ap suc z) (let w : classAt K (8 * n) ≡ classAt J (8 * n) = omega arith in w) ∙ sym (layer-key ks J) in
       ap (layerOrder (layerKey ks K)) (sym e) ∙ layer-order .same (layerKey ks K)
-    where
-      pair : {a b c d : ℕ} → a ≡ b → c ≡ d → _≡_ {A = IkeyClass} (a, c) (b, d)
-      pair p q = λ i. (p i, q i)
 
   -- the trees' three ways are the words' two
   pub go-on : {A : Type 0} (x y : A) → pick (layerOrder (layerKey ks K) (layerKey ks J)) y x y ≡ cond (bothGoOn K J (length ks)) x y

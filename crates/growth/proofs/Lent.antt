@@ -6,12 +6,12 @@ use native.Mathlib.Nat.{mul-div-cancel}
 use native.Mathlib.Omega.{arith}
 use lib.ListN.{length}
 use Rattle.bank.proofs.Tests.{is-true}
-use Rattle.arena.specs.Memory.{Memory, memory, nodeCount, rightLengths}
+use Rattle.arena.specs.Memory.{Memory, nodeCount, rightLengths}
 use Rattle.arena.proofs.Measures.{right-means}
 use Rattle.trees.specs.Nodes.{NodeList}
 use Rattle.trees.specs.Layers.{Pointer}
-use Rattle.views.specs.Views.{nodesView, Sound}
-use Rattle.growth.proofs.Memory.{Nodes, View}
+use Rattle.views.specs.Views.{Sound}
+use Rattle.growth.proofs.Memory.{Nodes}
 use Rattle.growth.proofs.LayerGrown.{LayerGrows}
 
 -- sound memory has sound nodes, 255 at most
@@ -26,9 +26,6 @@ pub count-of : (nodes : List ℕ) (n : ℕ) → Nodes nodes n → nodeCount (len
 count-of nodes n N =
     let e : length nodes - 2 ≡ n * 47 = omega (arith, N .long) in
     ap (λ (x : ℕ). x / 47) e ∙ mul-div-cancel n (omega arith)
-
-pub view-of : (nodes cells bytes : List ℕ) (n : ℕ) → Nodes nodes n → nodesView (memory nodes cells bytes) ≡ View nodes n
-view-of nodes cells bytes n N = ap (View nodes) (count-of nodes n N)
 
 -- what is kept of more nodes' words is kept of fewer
 pub own-more : (own own′ : ℕ → ℕ) (nodes : List ℕ) (n holder root : ℕ) (result : List ℕ) (b : ℕ × NodeList Pointer)

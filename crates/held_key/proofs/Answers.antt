@@ -5,14 +5,13 @@ use Prim.Native.Nat.{ℕ}
 use mathlib.Core.Path.{_≡_}
 use mathlib.Core.Bool.{Bool}
 use mathlib.Core.List.{List, [], _∷_}
-use mir.Syntax.{named, imm, w8, tyInt, tyRef}
+use mir.Syntax.{named}
 use contract.Lifetimes.{Lfts}
-use denote.Builtin.{u8, SliceRefOf}
 use denote.Enum.Laws as EL
 use denote.Ref.{RefT, now}
-use denote.Signature.{plain}
-use denote.Slice.{sliceTy, shr-slice-lawful}
-use Rattle.key_layer.specs.Keys.{asked, IsTail}
+use denote.Signature.{plain, namedLft}
+use denote.Struct.Laws as LL
+use Rattle.key_layer.specs.Keys.{asked}
 use Rattle.key_layer.specs.Said.{truth, saidCount, saidWord, saidTold, saidJudged}
 use Rattle.key_layer.specs.declared.Count.{Count}
 use Rattle.key_layer.specs.declared.Word.{Word}
@@ -26,6 +25,10 @@ use Rattle.key_layer.proofs.Told as T
 use Rattle.key_layer.proofs.Told.Laws as T′
 use Rattle.key_layer.proofs.Judged as J
 use Rattle.key_layer.proofs.Judged.Laws as J′
+use Rattle.key.specs.declared.Part.{Part}
+use Rattle.key.specs.Parts.{IsSuffix, IsData}
+use Rattle.key.proofs.Part as P
+use Rattle.key.proofs.Part.Laws as P′
 use Rattle.held_key.proofs.Asking.{Kind}
 
 -- ---- the kinds of answer
@@ -58,12 +61,13 @@ judged = record {
   typed = λ 𝓤 H A given κs r u is. EL.lawful J.the-type J′.the-laws 𝓤 H A given tt .typed r _ is .0;
 }
 
--- a part of the caller's bytes
+-- a part of the caller's bytes, beside the number of a refusal
 abbrev pub part : Kind
 part = record {
-  slot = SliceRefOf (0 ∷ []) tt (plain (λ _. u8)) (λ _. tt);
-  τ = sliceTy (tyRef (named 0) imm (tyInt w8));
-  typed = λ 𝓤 H A given κs r u is. shr-slice-lawful 𝓤 H A given (named 0) (κs .0) u8 .typed r _ is .0;
+  slot = plain (λ κs. P.the-row (namedLft 1 0 tt κs));
+  τ = P′.mir (named 0);
+  typed = λ 𝓤 H A given κs r u is. LL.lawful (P.the-type (namedLft 1 0 tt κs)) (P′.the-laws (namedLft 1 0 tt κs)) 𝓤 H A given .typed r _
+      is .0;
 }
 
 -- ---- what is said of it
@@ -80,6 +84,8 @@ SaysTold b κs s i c a r = saidTold r ≡ asked (now s) i c a (truth (b (now s) 
 abbrev pub SaysJudged : Lfts 1 → RefT (List ℕ) → ℕ → ℕ → ℕ → Judged → Type 0
 SaysJudged κs s i c a r = saidJudged r ≡ asked (now s) i c a []
 
--- the part starts where `from` says
-abbrev pub SaysPart : (List ℕ → ℕ → ℕ → ℕ → ℕ) → Lfts 1 → RefT (List ℕ) → ℕ → ℕ → ℕ → RefT (List ℕ) → Type 0
-SaysPart from κs s i c a r = IsTail s (from (now s) i c a) r
+abbrev pub SaysSuffix : Lfts 1 → RefT (List ℕ) → ℕ → ℕ → ℕ → Part → Type 0
+SaysSuffix κs s i c a r = IsSuffix s i c a r
+
+abbrev pub SaysData : Lfts 1 → RefT (List ℕ) → ℕ → ℕ → ℕ → Part → Type 0
+SaysData κs s i c a r = IsData s i c a r

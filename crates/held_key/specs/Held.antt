@@ -2,10 +2,16 @@
 use Prim.Native.Nat.{ℕ}
 use mathlib.Core.List.{List, [], _∷_}
 use lib.ListN.{getD}
-use denote.Ref.{RefT}
+use denote.Ref.{RefT, now}
 use Rattle.refusal.specs.Answer.{Answer}
+use Rattle.key_layer.specs.Keys.{Question, answerTo}
+use Rattle.held_key.specs.declared.Key.{Key}
 use Rattle.held_key.specs.declared.Numbers.{Numbers}
 use Rattle.held_key.specs.declared.Keyed.{Keyed}
+
+-- what a question is answered of a key that holds its bytes: what the plain call answers of them and of its numbers
+abbrev pub answerOf : Question → Key → Answer
+answerOf q k = answerTo q (now (k .bytes)) (k .ikey) (k .«shift_count») (k .«suffix_start»)
 
 -- the numbers of an answer: its own, and its three values, or 0 where it has none
 abbrev pub numbersIn : Answer → Numbers
@@ -24,6 +30,11 @@ holding bytes n =
       refusal = n .refusal;
       key = record { bytes = bytes; ikey = n .ikey; «shift_count» = n .«shift_count»; «suffix_start» = n .«suffix_start» };
     }
+
+-- the numbers of a key beside its refusal, without the bytes
+abbrev pub numbersHeld : Keyed → Numbers
+numbersHeld r =
+    record { refusal = r .refusal; ikey = r .key .ikey; «shift_count» = r .key .«shift_count»; «suffix_start» = r .key .«suffix_start» }
 
 -- what a plain call says, and the same slice: the same bytes, at the same place
 abbrev pub keyedOf : RefT (List ℕ) → Answer → Keyed

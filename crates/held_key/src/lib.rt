@@ -1,19 +1,15 @@
 // A key that holds the caller's bytes, and thin functions over it: each passes the slice and the numbers to the plain call of crate `key`.
 // The plain call judges them, so nothing is asked of a key here, and the refusals are those of the plain call.
 ghost use mathlib.Core.Path.{_≡_};
-ghost use mathlib.Core.List.{[], _∷_};
-ghost use Prim.Native.Nat.{_-_, _*_};
-ghost use lib.Dec.{ltb, eqb};
-ghost use lib.ListN.{length, drop};
-ghost use Rattle.order.specs.Bytes.{bytewise};
-ghost use Rattle.ikey.specs.Said.{place};
-ghost use Rattle.key_layer.specs.Keys.{numbersAt, asked, hasSuffix, compareSaid, suffixFrom, dataFrom, IsTail};
-ghost use Rattle.key_layer.specs.Keys.{newSaid, shiftSaid, shiftBySaid, unshiftSaid};
-ghost use Rattle.key_layer.specs.Said.{truth, saidWord, saidCount, saidTold, saidCompared, saidJudged};
-ghost use Rattle.held_key.specs.Held.{holding, keyedOf};
+ghost use Rattle.key_layer.specs.Keys.{Judge, Len, Ikey, ShiftCount, SuffixStart, CurrentLen, IsEmpty, IsShifted, HasSuffix, SuffixLen};
+ghost use Rattle.key_layer.specs.Keys.{Compare, CompareSuffix, UnshiftAll, newSaid, shiftSaid, shiftBySaid, unshiftSaid};
+ghost use Rattle.key_layer.specs.Said.{saidWord, saidCount, saidTold, saidCompared, saidJudged};
+ghost use Rattle.key.specs.Parts.{IsSuffix, IsData};
+ghost use Rattle.held_key.specs.Held.{keyedOf, holding, answerOf};
 use key::Compared;
 use key::Count;
 use key::Judged;
+use key::Part;
 use key::Told;
 use key::Word;
 
@@ -100,9 +96,7 @@ pub fn unshift<'a>(k: Key<'a>) -> Keyed<'a>
 
 // The key at layer 0 again.
 pub fn unshift_all<'a>(k: Key<'a>) -> Keyed<'a>
-    ensures { λ r. ⌜ r ≡ keyedOf (k .entry .bytes)
-        (asked (now (k .entry .bytes)) (k .entry .ikey) (k .entry .«shift_count») (k .entry .«suffix_start»)
-        (numbersAt (now (k .entry .bytes)) 0)) ⌝ }
+    ensures { λ r. ⌜ r ≡ keyedOf (k .entry .bytes) (answerOf UnshiftAll (k .entry)) ⌝ }
 {
     hold(
         k.bytes,
@@ -114,96 +108,84 @@ pub fn unshift_all<'a>(k: Key<'a>) -> Keyed<'a>
 
 // The length of the whole key.
 pub fn len<'a>(k: Key<'a>) -> Count
-    ensures { λ r. ⌜ saidCount r ≡ asked (now (k .entry .bytes)) (k .entry .ikey) (k .entry .«shift_count») (k .entry .«suffix_start»)
-        (length (now (k .entry .bytes)) ∷ []) ⌝ }
+    ensures { λ r. ⌜ saidCount r ≡ answerOf Len (k .entry) ⌝ }
 {
     key::len(k.bytes, k.ikey, k.shift_count, k.suffix_start)
 }
 
 // The ikey at the key's layer.
 pub fn ikey<'a>(k: Key<'a>) -> Word
-    ensures { λ r. ⌜ saidWord r ≡ asked (now (k .entry .bytes)) (k .entry .ikey) (k .entry .«shift_count») (k .entry .«suffix_start»)
-        (k .entry .ikey ∷ []) ⌝ }
+    ensures { λ r. ⌜ saidWord r ≡ answerOf Ikey (k .entry) ⌝ }
 {
     key::ikey(k.bytes, k.ikey, k.shift_count, k.suffix_start)
 }
 
 // How often the key was shifted.
 pub fn shift_count<'a>(k: Key<'a>) -> Count
-    ensures { λ r. ⌜ saidCount r ≡ asked (now (k .entry .bytes)) (k .entry .ikey) (k .entry .«shift_count») (k .entry .«suffix_start»)
-        (k .entry .«shift_count» ∷ []) ⌝ }
+    ensures { λ r. ⌜ saidCount r ≡ answerOf ShiftCount (k .entry) ⌝ }
 {
     key::shift_count(k.bytes, k.ikey, k.shift_count, k.suffix_start)
 }
 
 // Where the suffix starts, in the whole key.
 pub fn suffix_start<'a>(k: Key<'a>) -> Count
-    ensures { λ r. ⌜ saidCount r ≡ asked (now (k .entry .bytes)) (k .entry .ikey) (k .entry .«shift_count») (k .entry .«suffix_start»)
-        (k .entry .«suffix_start» ∷ []) ⌝ }
+    ensures { λ r. ⌜ saidCount r ≡ answerOf SuffixStart (k .entry) ⌝ }
 {
     key::suffix_start(k.bytes, k.ikey, k.shift_count, k.suffix_start)
 }
 
 // The length from the key's layer on.
 pub fn current_len<'a>(k: Key<'a>) -> Count
-    ensures { λ r. ⌜ saidCount r ≡ asked (now (k .entry .bytes)) (k .entry .ikey) (k .entry .«shift_count») (k .entry .«suffix_start»)
-        ((length (now (k .entry .bytes)) - 8 * k .entry .«shift_count») ∷ []) ⌝ }
+    ensures { λ r. ⌜ saidCount r ≡ answerOf CurrentLen (k .entry) ⌝ }
 {
     key::current_len(k.bytes, k.ikey, k.shift_count, k.suffix_start)
 }
 
 // Whether the key has no byte at all.
 pub fn is_empty<'a>(k: Key<'a>) -> Told
-    ensures { λ r. ⌜ saidTold r ≡ asked (now (k .entry .bytes)) (k .entry .ikey) (k .entry .«shift_count») (k .entry .«suffix_start»)
-        (truth (eqb (length (now (k .entry .bytes))) 0) ∷ []) ⌝ }
+    ensures { λ r. ⌜ saidTold r ≡ answerOf IsEmpty (k .entry) ⌝ }
 {
     key::is_empty(k.bytes, k.ikey, k.shift_count, k.suffix_start)
 }
 
 // Whether the key was shifted.
 pub fn is_shifted<'a>(k: Key<'a>) -> Told
-    ensures { λ r. ⌜ saidTold r ≡ asked (now (k .entry .bytes)) (k .entry .ikey) (k .entry .«shift_count») (k .entry .«suffix_start»)
-        (truth (ltb 0 (k .entry .«shift_count»)) ∷ []) ⌝ }
+    ensures { λ r. ⌜ saidTold r ≡ answerOf IsShifted (k .entry) ⌝ }
 {
     key::is_shifted(k.bytes, k.ikey, k.shift_count, k.suffix_start)
 }
 
 // Whether more than eight bytes are left at the key's layer.
 pub fn has_suffix<'a>(k: Key<'a>) -> Told
-    ensures { λ r. ⌜ saidTold r ≡ asked (now (k .entry .bytes)) (k .entry .ikey) (k .entry .«shift_count») (k .entry .«suffix_start»)
-        (truth (hasSuffix (now (k .entry .bytes)) (k .entry .«shift_count»)) ∷ []) ⌝ }
+    ensures { λ r. ⌜ saidTold r ≡ answerOf HasSuffix (k .entry) ⌝ }
 {
     key::has_suffix(k.bytes, k.ikey, k.shift_count, k.suffix_start)
 }
 
 // The length of the suffix.
 pub fn suffix_len<'a>(k: Key<'a>) -> Count
-    ensures { λ r. ⌜ saidCount r ≡ asked (now (k .entry .bytes)) (k .entry .ikey) (k .entry .«shift_count») (k .entry .«suffix_start»)
-        ((length (now (k .entry .bytes)) - k .entry .«suffix_start») ∷ []) ⌝ }
+    ensures { λ r. ⌜ saidCount r ≡ answerOf SuffixLen (k .entry) ⌝ }
 {
     key::suffix_len(k.bytes, k.ikey, k.shift_count, k.suffix_start)
 }
 
 // Whether the numbers fit the bytes: what every call decides first.
 pub fn judge<'a>(k: Key<'a>) -> Judged
-    ensures { λ r. ⌜ saidJudged r ≡ asked (now (k .entry .bytes)) (k .entry .ikey) (k .entry .«shift_count») (k .entry .«suffix_start»)
-        [] ⌝ }
+    ensures { λ r. ⌜ saidJudged r ≡ answerOf Judge (k .entry) ⌝ }
 {
     key::judge(k.bytes, k.ikey, k.shift_count, k.suffix_start)
 }
 
-// The caller's own bytes from the suffix start on: an empty part where there is no suffix, and where `judge` refuses the key.
-pub fn suffix<'a>(k: Key<'a>) -> &'a [u8]
-    ensures { λ r. ⌜ IsTail (k .entry .bytes)
-        (suffixFrom (now (k .entry .bytes)) (k .entry .ikey) (k .entry .«shift_count») (k .entry .«suffix_start»)) r ⌝ }
+// The caller's own bytes from the suffix start on: an empty part where there is no suffix. Refused with 7, it is the empty part at the end.
+pub fn suffix<'a>(k: Key<'a>) -> Part<'a>
+    ensures { λ r. ⌜ IsSuffix (k .entry .bytes) (k .entry .ikey) (k .entry .«shift_count») (k .entry .«suffix_start») r ⌝ }
 {
     key::suffix(k.bytes, k.ikey, k.shift_count, k.suffix_start)
 }
 
-// All of the caller's own bytes: an empty part where `judge` refuses the key.
-pub fn full_data<'a>(k: Key<'a>) -> &'a [u8]
-    ensures { λ r. ⌜ IsTail (k .entry .bytes)
-        (dataFrom (now (k .entry .bytes)) (k .entry .ikey) (k .entry .«shift_count») (k .entry .«suffix_start»)) r ⌝ }
+// All of the caller's own bytes. Refused with 7, it is the empty part at the end.
+pub fn full_data<'a>(k: Key<'a>) -> Part<'a>
+    ensures { λ r. ⌜ IsData (k .entry .bytes) (k .entry .ikey) (k .entry .«shift_count») (k .entry .«suffix_start») r ⌝ }
 {
     key::full_data(k.bytes, k.ikey, k.shift_count, k.suffix_start)
 }
@@ -212,8 +194,7 @@ pub fn full_data<'a>(k: Key<'a>) -> &'a [u8]
 
 // The key against an ikey and a length, at one layer: two longer ones with equal ikeys are equal here.
 pub fn compare<'a>(k: Key<'a>, other_ikey: u64, keylenx: usize) -> Compared
-    ensures { λ r. ⌜ saidCompared r ≡
-        compareSaid (now (k .entry .bytes)) (k .entry .ikey) (k .entry .«shift_count») (k .entry .«suffix_start») «other_ikey» keylenx ⌝ }
+    ensures { λ r. ⌜ saidCompared r ≡ answerOf (Compare «other_ikey» keylenx) (k .entry) ⌝ }
 {
     key::compare(
         k.bytes,
@@ -227,8 +208,7 @@ pub fn compare<'a>(k: Key<'a>, other_ikey: u64, keylenx: usize) -> Compared
 
 // The key's suffix against another, byte by byte.
 pub fn compare_suffix<'a, 'b>(k: Key<'a>, other: &'b [u8]) -> Compared
-    ensures { λ r. ⌜ saidCompared r ≡ asked (now (k .entry .bytes)) (k .entry .ikey) (k .entry .«shift_count») (k .entry .«suffix_start»)
-        (place (bytewise (drop (k .entry .«suffix_start») (now (k .entry .bytes))) (now (other .entry))) ∷ []) ⌝ }
+    ensures { λ r. ⌜ saidCompared r ≡ answerOf (CompareSuffix (now (other .entry))) (k .entry) ⌝ }
 {
     key::compare_suffix(k.bytes, k.ikey, k.shift_count, k.suffix_start, other)
 }

@@ -1,6 +1,6 @@
 // What the plain calls say of a key, as numbers alone: the refusal's number or 0, and the key's three numbers.
 ghost use mathlib.Core.Path.{_≡_};
-ghost use Rattle.key_layer.specs.Keys.{numbersAt, asked, newSaid, shiftSaid, shiftBySaid, unshiftSaid};
+ghost use Rattle.key_layer.specs.Keys.{answerTo, UnshiftAll, newSaid, shiftSaid, shiftBySaid, unshiftSaid};
 ghost use Rattle.key_layer.specs.Said.{saidMade, saidMoved};
 ghost use Rattle.held_key.specs.Held.{numbersIn};
 use crate::Numbers;
@@ -83,7 +83,7 @@ pub fn unshifted(bytes: &[u8], ikey: u64, shift_count: usize, suffix_start: usiz
 
 // The numbers of the key at layer 0 again.
 pub fn unshifted_all(bytes: &[u8], ikey: u64, shift_count: usize, suffix_start: usize) -> Numbers
-    ensures { λ r. ⌜ r ≡ numbersIn (asked (now (bytes .entry)) ikey «shift_count» «suffix_start» (numbersAt (now (bytes .entry)) 0)) ⌝ }
+    ensures { λ r. ⌜ r ≡ numbersIn (answerTo UnshiftAll (now (bytes .entry)) ikey «shift_count» «suffix_start») ⌝ }
 {
     of_moved(key::unshift_all(bytes, ikey, shift_count, suffix_start))
 }

@@ -2,12 +2,8 @@
 use mathlib.Core.Path.{_≡_, refl, sym, ap, _∙_}
 use mathlib.Core.List.{List}
 use Prim.Native.Nat.{ℕ}
-use native.Mathlib.Omega.{arith}
-use lib.ListN.{getD}
-use Rattle.refusal.specs.Answer.{Answer}
-use Rattle.refusal.specs.declared.Refusal.{Refusal}
-use Rattle.refusal.specs.Refusals.{numberOf}
-use Rattle.refusal.proofs.Laws.{number-one, number-pos}
+use Rattle.refusal.proofs.Laws.{number-one}
+use Rattle.refusal.proofs.One.{number-of, value-of, differ}
 use Rattle.arena.specs.declared.Cleared.{Cleared}
 use Rattle.arena.specs.Memory.{Memory, Did, did, cleared, saidCleared}
 use Rattle.arena.proofs.One as arena
@@ -21,17 +17,6 @@ use Rattle.index_questions.specs.declared.Found.the-variants as found-is
 use Rattle.index_questions.specs.declared.Listed.{Listed}
 use Rattle.index_questions.specs.declared.Listed.the-variants as listed-is
 use Rattle.index.specs.Answers.{saidAdded, saidRemoved, saidFound, saidListed}
-
--- the number and the values of equal answers
-number-of : {a b : Answer} → a ≡ b → a .number ≡ b .number
-number-of e = ap (λ (x : Answer). x .number) e
-
-value-of : (k : ℕ) {a b : Answer} → a ≡ b → getD (a .values) k 0 ≡ getD (b .values) k 0
-value-of k e = ap (λ (x : Answer). getD (x .values) k 0) e
-
--- an accepted answer is no refusal
-differ : (why : Refusal) → 0 ≡ numberOf why → ⊥
-differ why e = omega (arith, number-pos why)
 
 -- ---- answers that say the same are the same
 

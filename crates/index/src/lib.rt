@@ -15,11 +15,13 @@ use refusal::Refusal;
 // The most bytes that a key has.
 const LONGEST: usize = 256;
 
+// What a put answers.
 pub enum Added {
     Done,
     Refused(Refusal),
 }
 
+// What a removal answers.
 pub enum Removed {
     Done,
     Refused(Refusal),
@@ -32,7 +34,7 @@ pub fn clear(nodes: &mut [u64], cells: &mut [u64], bytes: &mut [u8]) -> Cleared
     arena::clear(nodes, cells, bytes)
 }
 
-// A key less.
+// Takes a key away: its entry goes, and its cell is free again.
 pub fn remove(nodes: &mut [u64], cells: &mut [u64], bytes: &mut [u8], key: &[u8]) -> Removed
     ensures { λ r. ⌜ did (saidRemoved r) (memory (now (nodes .exit)) (now (cells .exit)) (now (bytes .exit))) ≡ removed (memory (now (nodes .entry)) (now (cells .entry)) (now (bytes .entry))) (now (key .entry)) ⌝ }
 {
@@ -55,7 +57,7 @@ pub fn remove(nodes: &mut [u64], cells: &mut [u64], bytes: &mut [u8], key: &[u8]
     Removed::Refused(Refusal::Missing)
 }
 
-// A new key with its frame number.
+// Stores a new key with its frame number.
 pub fn put(nodes: &mut [u64], cells: &mut [u64], bytes: &mut [u8], key: &[u8], frame: u64) -> Added
     ensures { λ r. ⌜ did (saidAdded r) (memory (now (nodes .exit)) (now (cells .exit)) (now (bytes .exit))) ≡ putDone (memory (now (nodes .entry)) (now (cells .entry)) (now (bytes .entry))) (now (key .entry)) frame ⌝ }
 {

@@ -50,14 +50,6 @@ module _ (nodes cells bytes : List ℕ) {t : Bool} (e : t ≡ isTree (memory nod
 
 -- by the tag: the key is stored, or not
 module _ (r : Met) where
-  pub tag-stored : OneOf (0 ∷ []) (tagOf met.the-type r) → isStored r ≡ true
-  tag-stored h = by r h
-    where
-      by : (x : Met) → OneOf (0 ∷ []) (tagOf met.the-type x) → isStored x ≡ true
-      by (Stored leaf p c) g = refl
-      by (Conflict leaf p c links) g = absurd (omega (arith, g))
-      by (Missing holder root links) g = absurd (omega (arith, g))
-
   pub tag-other : OneOf (1 ∷ 2 ∷ []) (tagOf met.the-type r) → isStored r ≡ false
   tag-other h = by r h
     where

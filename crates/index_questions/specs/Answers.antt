@@ -6,12 +6,12 @@ use Rattle.index_questions.specs.declared.Found.the-variants as found-is
 use Rattle.index_questions.specs.declared.Listed.{Listed}
 use Rattle.index_questions.specs.declared.Listed.the-variants as listed-is
 
--- 0 and the frame number
+-- a find: 0 and the frame number, or the refusal's number
 abbrev pub saidFound : Found → Answer
 saidFound (found-is.Frame frame) = accepted (frame ∷ [])
 saidFound (found-is.Refused why) = refused why []
 
--- 0, the cell, the length of its key and its frame number
+-- the k-th entry: 0, its cell, the length of its key and its frame number, or the refusal's number
 abbrev pub saidListed : Listed → Answer
 saidListed (listed-is.Entry cell length frame) = accepted (cell ∷ length ∷ frame ∷ [])
 saidListed (listed-is.Refused why) = refused why []

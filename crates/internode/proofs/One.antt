@@ -2,12 +2,12 @@
 use mathlib.Core.Path.{_≡_, refl, sym, ap, _∙_}
 use mathlib.Core.List.{List, _++_}
 use Prim.Native.Nat.{ℕ}
-use native.Mathlib.Omega.{arith}
 use lib.ListN.{getD, take, drop}
 use lib.Seq.{take-at, drop-at}
 use Rattle.refusal.specs.Answer.{Answer}
-use Rattle.refusal.proofs.Laws.{number-one, number-pos}
-use Rattle.ikey.proofs.One.{no-refusal, same-refusal, same-value, place-one}
+use Rattle.refusal.proofs.Laws.{number-one}
+use Rattle.refusal.proofs.One.{number-of, differ, no-refusal, same-refusal, same-value}
+use Rattle.ikey.proofs.One.{place-one}
 use Rattle.internode_places.specs.declared.Internode.{Internode}
 use Rattle.internode_places.proofs.Whole.{Whole}
 use Rattle.internode.specs.declared.Place.{Place}
@@ -42,8 +42,8 @@ compared-one (compared-is.Refused v) (compared-is.Refused w) e = ap compared-is.
 
 verdict-one : (a b : Verdict) → numberSaid a ≡ numberSaid b → a ≡ b
 verdict-one verdict-is.Accepted verdict-is.Accepted e = refl
-verdict-one verdict-is.Accepted (verdict-is.Refused w) e = absurd (omega (arith, number-pos w))
-verdict-one (verdict-is.Refused v) verdict-is.Accepted e = absurd (omega (arith, number-pos v))
+verdict-one verdict-is.Accepted (verdict-is.Refused w) e = absurd (differ w e)
+verdict-one (verdict-is.Refused v) verdict-is.Accepted e = absurd (differ v (sym e))
 verdict-one (verdict-is.Refused v) (verdict-is.Refused w) e = ap verdict-is.Refused (number-one v w e)
 
 -- an internode is known by its numbers
@@ -67,6 +67,6 @@ node-one x y a b e =
 pub inserted-one : (a b : Inserted) → Whole (a .node) → Whole (b .node) → saidInserted a ≡ saidInserted b → a ≡ b
 inserted-one a b u v e =
     λ i. record {
-      said = verdict-one (a .said) (b .said) (ap (λ (x : Answer). x .number) e) i;
+      said = verdict-one (a .said) (b .said) (number-of e) i;
       node = node-one (a .node) (b .node) u v (ap (λ (x : Answer). x .values) e) i;
     }

@@ -29,6 +29,7 @@ pub enum Compared {
     Refused(Refusal),
 }
 
+// Whether an insertion is accepted.
 pub enum Verdict {
     Accepted,
     Refused(Refusal),

@@ -34,10 +34,11 @@ cutAt m keys children =
       right = nodeOf (drop (suc m) keys) (drop (suc m) children);
     }
 
--- the sixteen keys and seventeen children of a full internode and one key more
+-- the sixteen ikeys of a full internode and one more, which goes to place p
 abbrev pub keysWith : Internode → ℕ → ℕ → List ℕ
 keysWith x p ikey = insertedAt p ikey (x .ikeys)
 
+-- its seventeen children, the new one right of the new ikey
 abbrev pub childrenWith : Internode → ℕ → ℕ → List ℕ
 childrenWith x p child = insertedAt (p + 1) child (x .children)
 

@@ -4,6 +4,7 @@ use mathlib.Core.Bool.{Bool, true, false, _&&_}
 use mathlib.Core.List.{List, [], _∷_, _++_}
 use lib.ListN.{take, drop}
 use lib.Dec.{ltb}
+pub use Rattle.order.specs.Lists.{hereOrLater}
 
 -- the first of the list, if it has one, is above k
 abbrev pub below : ℕ → List ℕ → Bool
@@ -15,15 +16,12 @@ unfoldable pub rising : List ℕ → Bool
 rising [] = true
 rising (k ∷ ks) = below k ks && rising ks
 
-abbrev pub hereOrLater : Bool → ℕ → ℕ
-hereOrLater true later = zero
-hereOrLater false later = suc later
-
 -- the first place that passes the test, or the length where none does
 unfoldable pub first : (ℕ → Bool) → List ℕ → ℕ
 first test [] = zero
 first test (k ∷ ks) = hereOrLater (test k) (first test ks)
 
+-- one more than the place in the rest where it has one; else 1 where the test holds here, and 0 where it does not
 abbrev pub oneMoreOr : ℕ → Bool → ℕ
 oneMoreOr (suc later) here = suc (suc later)
 oneMoreOr zero true = 1

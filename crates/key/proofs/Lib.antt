@@ -1,3 +1,5 @@
 pub mod Fitting
-pub mod One
 pub mod Layers
+pub mod One
+pub mod Parts
+pub mod Told

@@ -1,4 +1,4 @@
--- One outcome each: answers that say the same are the same, and so are parts that start at one place. Assumes nothing.
+-- One outcome each: answers that say the same are the same, and so are parts that say the same and lie at one place. Assumes nothing.
 use Prim.Native.Nat.{ℕ}
 use mathlib.Core.Path.{_≡_, refl, sym, ap, ap₂, _∙_}
 use mathlib.Core.Bool.{Bool, true, false}
@@ -24,7 +24,8 @@ use Rattle.key_layer.specs.declared.Compared.the-variants.{Is as compared-is, R
 use Rattle.key_layer.specs.declared.Judged.{Judged}
 use Rattle.key_layer.specs.declared.Judged.the-variants.{Fits, Refused as judged-refused}
 use Rattle.key_layer.specs.Said.{numbersOf, truth, saidMade, saidMoved, saidWord, saidCount, saidTold, saidCompared, saidJudged}
-use Rattle.key_layer.specs.Keys.{IsTail}
+use Rattle.key.specs.declared.Part.{Part}
+use Rattle.key.specs.Parts.{saidPart, LiesFrom}
 
 layerOf : ℕ → ℕ → ℕ → Layer
 layerOf i s p = record { ikey = i; «shift_count» = s; «suffix_start» = p }
@@ -92,7 +93,12 @@ judged-one Fits (judged-refused w l) e = no-refusal w e
 judged-one (judged-refused v k) Fits e = no-refusal v (sym e)
 judged-one (judged-refused v k) (judged-refused w l) e = ap₂ judged-refused (same-refusal v w e) (back-one v w k l e)
 
--- two parts that a call may hand back hold the same bytes and lie at the same place
-pub tail-one : (s : RefT (List ℕ)) (start : ℕ) (a b : RefT (List ℕ)) → IsTail s start a → IsTail s start b
-    → (now a ≡ now b) × ((a .ptr .0 ≡ b .ptr .0) × (a .ptr .1 ≡ b .ptr .1))
-tail-one s start a b p q = (p .0 ∙ sym (q .0), (p .1 .0 ∙ sym (q .1 .0), p .1 .1 ∙ sym (q .1 .1)))
+-- two parts that a call may hand back have one number, hold the same bytes and lie at the same place
+module _ (said : Answer) (s : RefT (List ℕ)) (start : ℕ) (a b : Part) where
+  pub part-one : (saidPart a ≡ said) × LiesFrom s start (a .bytes) → (saidPart b ≡ said) × LiesFrom s start (b .bytes)
+      → (a .refusal ≡ b .refusal)
+      × ((now (a .bytes) ≡ now (b .bytes)) × ((a .bytes .ptr .0 ≡ b .bytes .ptr .0) × (a .bytes .ptr .1 ≡ b .bytes .ptr .1)))
+  part-one p q = (
+    ap (λ (x : Answer). x .number) (p .0 ∙ sym (q .0)),
+    (ap (λ (x : Answer). x .values) (p .0 ∙ sym (q .0)), (p .1 .0 ∙ sym (q .1 .0), p .1 .1 ∙ sym (q .1 .1))),
+  )

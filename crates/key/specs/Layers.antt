@@ -8,13 +8,15 @@ use lib.ListN.{length, getD}
 use Rattle.refusal.specs.Answer.{Answer, accepted}
 use Rattle.key_layer.specs.Keys.{hasSuffix, newSaid, shiftSaid, compareSaid}
 
--- the numbers of a key, in the answer that gave it
+-- the ikey of a key, in the answer that gave it
 abbrev pub ikeyOf : Answer → ℕ
 ikeyOf key = getD (key .values) 0 0
 
+-- its shift count
 abbrev pub shiftsOf : Answer → ℕ
 shiftsOf key = getD (key .values) 1 0
 
+-- its suffix start
 abbrev pub startOf : Answer → ℕ
 startOf key = getD (key .values) 2 0
 

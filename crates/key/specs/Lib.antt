@@ -1,3 +1,4 @@
 pub mod Said
 pub mod Keys
 pub mod Layers
+pub mod Parts

@@ -2,12 +2,9 @@
 // A key that does not fit its own bytes is refused with 7, a shift that it does not allow with 8, and the numbers come back.
 // The questions, the moves and what they share are passed on from the crates below; the parts of the caller's bytes are made here.
 ghost use mathlib.Core.Path.{_≡_};
-ghost use mathlib.Core.List.{[], _∷_};
-ghost use lib.ListN.{drop};
-ghost use Rattle.order.specs.Bytes.{bytewise};
-ghost use Rattle.ikey.specs.Said.{place};
-ghost use Rattle.key_layer.specs.Keys.{asked, suffixFrom, dataFrom, IsTail};
+ghost use Rattle.key_layer.specs.Keys.{answerTo, CompareSuffix};
 ghost use Rattle.key_layer.specs.Said.{saidCompared};
+ghost use Rattle.key.specs.Parts.{IsSuffix, IsData};
 pub use key_layer::Compared;
 pub use key_layer::Count;
 pub use key_layer::Judged;
@@ -34,31 +31,35 @@ pub use key_questions::shift_count;
 pub use key_questions::suffix_len;
 pub use key_questions::suffix_start;
 
-// The caller's own bytes from suffix_start on: an empty part where there is no suffix, and where `judge` refuses the key.
-pub fn suffix<'a>(bytes: &'a [u8], ikey: u64, shift_count: usize, suffix_start: usize) -> &'a [u8]
-    ensures { λ r. ⌜ IsTail (bytes .entry) (suffixFrom (now (bytes .entry)) ikey «shift_count» «suffix_start») r ⌝ }
-{
-    if inside::is_fit(bytes, ikey, shift_count, suffix_start) {
-        return &bytes[suffix_start..];
-    }
-    let n = bytes.len();
-    &bytes[n..]
+// A part of the caller's own bytes, beside the number of a refusal: 0 where nothing was refused. Refused, the part is empty.
+pub struct Part<'a> {
+    pub refusal: u64,
+    pub bytes: &'a [u8],
 }
 
-// All of the caller's own bytes: an empty part where `judge` refuses the key.
+// The caller's own bytes from the suffix start on: an empty part where there is no suffix.
+pub fn suffix<'a>(bytes: &'a [u8], ikey: u64, shift_count: usize, suffix_start: usize) -> Part<'a>
+    ensures { λ r. ⌜ IsSuffix (bytes .entry) ikey «shift_count» «suffix_start» r ⌝ }
+{
+    Part {
+        refusal: inside::refusal_of(bytes, ikey, shift_count, suffix_start),
+        bytes: inside::suffix(bytes, ikey, shift_count, suffix_start),
+    }
+}
+
+// All of the caller's own bytes.
 pub fn full_data<'a>(
     bytes: &'a [u8],
     ikey: u64,
     shift_count: usize,
     suffix_start: usize,
-) -> &'a [u8]
-    ensures { λ r. ⌜ IsTail (bytes .entry) (dataFrom (now (bytes .entry)) ikey «shift_count» «suffix_start») r ⌝ }
+) -> Part<'a>
+    ensures { λ r. ⌜ IsData (bytes .entry) ikey «shift_count» «suffix_start» r ⌝ }
 {
-    if inside::is_fit(bytes, ikey, shift_count, suffix_start) {
-        return &bytes[0..];
+    Part {
+        refusal: inside::refusal_of(bytes, ikey, shift_count, suffix_start),
+        bytes: inside::full_data(bytes, ikey, shift_count, suffix_start),
     }
-    let end = bytes.len();
-    &bytes[end..]
 }
 
 // The key's suffix against another, byte by byte: the part of the caller's bytes is handed on.
@@ -69,8 +70,11 @@ pub fn compare_suffix(
     suffix_start: usize,
     other: &[u8],
 ) -> Compared
-    ensures { λ r. ⌜ saidCompared r ≡ asked (now (bytes .entry)) ikey «shift_count» «suffix_start» (place (bytewise (drop «suffix_start» (now (bytes .entry))) (now (other .entry))) ∷ []) ⌝ }
+    ensures { λ r. ⌜ saidCompared r ≡ answerTo (CompareSuffix (now (other .entry))) (now (bytes .entry)) ikey «shift_count» «suffix_start» ⌝ }
 {
-    let order = ikey::inside::compare_parts(suffix(bytes, ikey, shift_count, suffix_start), other);
+    let order = ikey::inside::compare_parts(
+        inside::suffix(bytes, ikey, shift_count, suffix_start),
+        other,
+    );
     inside::asked_order(bytes, ikey, shift_count, suffix_start, order)
 }

@@ -6,10 +6,11 @@ use mathlib.Core.List.{List, [], _∷_}
 use native.Mathlib.Omega.{arith}
 use lib.Dec.{ltb}
 use lib.ListN.{length, take, drop}
-use borrow.Author.Tests.{lt-ltb, le-ltb, le-leb, lt-leb, eq-eqb, ne-eqb}
+use borrow.Author.Tests.{lt-ltb, le-ltb, le-leb, lt-leb, eq-eqb, ne-eqb, not-true, not-false}
 use Rattle.order.specs.Bytes.{bytewise}
 use Rattle.order.specs.Layer.{classOf, classAt, atLayer}
 use Rattle.refusal.specs.Answer.{Answer, accepted, refused, answered, _unless_}
+use Rattle.refusal.specs.Refusals.{numberOf}
 use Rattle.refusal.specs.declared.Refusal.the-variants.{Key, Shift}
 use Rattle.ikey.specs.Said.{place}
 use Rattle.key_layer.specs.Said.{truth}
@@ -30,6 +31,16 @@ module _ (bytes : List ℕ) (i s p : ℕ) {r : Bool} (e : r ≡ fits bytes i s p
 
   pub asked-same : r ≡ true → accepted vs ≡ asked bytes i s p vs
   asked-same q = asked-fit q refl
+
+-- and its number alone
+module _ (bytes : List ℕ) (i s p : ℕ) {r : Bool} (e : r ≡ fits bytes i s p) where
+  pub number-fit : r ≡ true → 0 ≡ asked bytes i s p [] .number
+  unfolding asked
+  number-fit q = rw (← e, q)
+
+  pub number-unfit : r ≡ false → {n : ℕ} → n ≡ numberOf Key → n ≡ asked bytes i s p [] .number
+  unfolding asked
+  number-unfit q h = rw (← e, q) h
 
 module _ (bytes : List ℕ) (i s p : ℕ) {x : Answer} where
   pub unfit-then : {r : Bool} → r ≡ fits bytes i s p → (vs : List ℕ) → r ≡ false → x ≡ refused Key (i ∷ s ∷ p ∷ []) → x ≡ asked bytes i s p vs
@@ -161,6 +172,8 @@ module _ (bytes : List ℕ) (i s p : ℕ) {r : Bool} (e : r ≡ fits bytes i s p
     data-all-at a = ap (_+ a) at-start
 
 pub ruleset asking = (asked-unfit, asked-same, asked-fit, unfit-then, count-then, below-then, layer-then, suffix-then)
+
+pub ruleset numbering = (number-fit, number-unfit, not-true, not-false)
 
 pub ruleset moving = (
   shiftable-none,

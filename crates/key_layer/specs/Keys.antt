@@ -1,11 +1,12 @@
 -- Keys by value: the caller's bytes and three numbers. What the numbers are at a layer, when they fit, and what each call says.
 use Prim.Native.Nat.{ℕ, zero, suc, _+_, _-_, _*_, _/_, _%_, min}
 use mathlib.Core.Path.{_≡_}
-use mathlib.Core.Bool.{Bool, true, cond, _&&_, _||_}
+use mathlib.Core.Bool.{Bool, true, false, cond, _&&_, _||_}
 use mathlib.Core.List.{List, [], _∷_}
 use lib.Dec.{leb, ltb, eqb}
 use lib.ListN.{length, drop}
 use denote.Ref.{RefT, now}
+use Rattle.order.specs.Bytes.{bytewise}
 use Rattle.order.specs.Layer.{ikeyAt, classOf, classAt, atLayer}
 use Rattle.refusal.specs.Answer.{Answer, answered, _unless_}
 use Rattle.ikey.specs.Said.{place}
@@ -37,10 +38,51 @@ unfoldable pub asked : List ℕ → ℕ → ℕ → ℕ → List ℕ → Answer
 asked bytes ikey shifts suffix values =
     answered ((7 unless fits bytes ikey shifts suffix) ∷ []) values (ikey ∷ shifts ∷ suffix ∷ [])
 
+-- what a key may be asked
+pub data Question : Type 0 where
+  Judge : Question
+  Len : Question
+  Ikey : Question
+  ShiftCount : Question
+  SuffixStart : Question
+  CurrentLen : Question
+  IsEmpty : Question
+  IsShifted : Question
+  HasSuffix : Question
+  SuffixLen : Question
+  Compare : ℕ → ℕ → Question
+  CompareSuffix : List ℕ → Question
+  UnshiftAll : Question
+
+-- yes is 1, no is 0
+abbrev pub truth : Bool → ℕ
+truth true = 1
+truth false = 0
+
+-- what is told of a key that fits: lengths in bytes; of a comparison 0 for less, 1 for equal, 2 for greater; of `unshift_all` the key
+abbrev pub told : Question → List ℕ → ℕ → ℕ → ℕ → List ℕ
+told Judge bytes ikey shifts suffix = []
+told Len bytes ikey shifts suffix = length bytes ∷ []
+told Ikey bytes ikey shifts suffix = ikey ∷ []
+told ShiftCount bytes ikey shifts suffix = shifts ∷ []
+told SuffixStart bytes ikey shifts suffix = suffix ∷ []
+told CurrentLen bytes ikey shifts suffix = (length bytes - 8 * shifts) ∷ []
+told IsEmpty bytes ikey shifts suffix = truth (eqb (length bytes) 0) ∷ []
+told IsShifted bytes ikey shifts suffix = truth (ltb 0 shifts) ∷ []
+told HasSuffix bytes ikey shifts suffix = truth (hasSuffix bytes shifts) ∷ []
+told SuffixLen bytes ikey shifts suffix = (length bytes - suffix) ∷ []
+told (Compare other len) bytes ikey shifts suffix =
+    place (atLayer ikey (classAt bytes (8 * shifts)) other (classOf len)) ∷ []
+told (CompareSuffix other) bytes ikey shifts suffix = place (bytewise (drop suffix bytes) other) ∷ []
+told UnshiftAll bytes ikey shifts suffix = numbersAt bytes 0
+
+-- what a question is answered: 7 unless the key fits, and else what is told of it
+abbrev pub answerTo : Question → List ℕ → ℕ → ℕ → ℕ → Answer
+answerTo q bytes ikey shifts suffix = asked bytes ikey shifts suffix (told q bytes ikey shifts suffix)
+
 -- the key against an ikey and a length, at its layer
 abbrev pub compareSaid : List ℕ → ℕ → ℕ → ℕ → ℕ → ℕ → Answer
-compareSaid bytes ikey shifts suffix other len =
-    asked bytes ikey shifts suffix (place (atLayer ikey (classAt bytes (8 * shifts)) other (classOf len)) ∷ [])
+compareSaid bytes ikey shifts suffix other len = answerTo (Compare other len) bytes ikey shifts suffix
 
 -- a call that moves a key to another layer: 7 unless it fits, 8 unless the move is allowed
 unfoldable pub moved : List ℕ → ℕ → ℕ → ℕ → Bool → ℕ → Answer
@@ -78,6 +120,7 @@ unshiftSaid bytes ikey shifts suffix = moved bytes ikey shifts suffix (ltb 0 shi
 unfoldable pub suffixFrom : List ℕ → ℕ → ℕ → ℕ → ℕ
 suffixFrom bytes ikey shifts suffix = cond (fits bytes ikey shifts suffix) suffix (length bytes)
 
+-- where all bytes of a key start: at 0; for a key that does not fit, at the end
 unfoldable pub dataFrom : List ℕ → ℕ → ℕ → ℕ → ℕ
 dataFrom bytes ikey shifts suffix = cond (fits bytes ikey shifts suffix) 0 (length bytes)
 

@@ -2,7 +2,7 @@
 // A key that does not fit its own bytes is refused with 7, a shift that it does not allow with 8, and the numbers come back.
 ghost use mathlib.Core.Path.{_≡_};
 ghost use mathlib.Core.List.{[]};
-ghost use Rattle.key_layer.specs.Keys.{numbersAt, asked, newSaid, shiftSaid, shiftBySaid, unshiftSaid};
+ghost use Rattle.key_layer.specs.Keys.{answerTo, Judge, UnshiftAll, newSaid, shiftSaid, shiftBySaid, unshiftSaid};
 ghost use Rattle.key_layer.specs.Said.{saidMade, saidMoved, saidJudged};
 use key_layer::Judged;
 use key_layer::Layer;
@@ -23,7 +23,7 @@ pub fn new(bytes: &[u8]) -> Made
 
 // Whether the numbers fit the bytes: what every call below decides first.
 pub fn judge(bytes: &[u8], ikey: u64, shift_count: usize, suffix_start: usize) -> Judged
-    ensures { λ r. ⌜ saidJudged r ≡ asked (now (bytes .entry)) ikey «shift_count» «suffix_start» [] ⌝ }
+    ensures { λ r. ⌜ saidJudged r ≡ answerTo Judge (now (bytes .entry)) ikey «shift_count» «suffix_start» ⌝ }
 {
     if inside::is_fit(bytes, ikey, shift_count, suffix_start) {
         return Judged::Fits;
@@ -85,7 +85,7 @@ pub fn unshift(bytes: &[u8], ikey: u64, shift_count: usize, suffix_start: usize)
 
 // The key at layer 0 again.
 pub fn unshift_all(bytes: &[u8], ikey: u64, shift_count: usize, suffix_start: usize) -> Moved
-    ensures { λ r. ⌜ saidMoved r ≡ asked (now (bytes .entry)) ikey «shift_count» «suffix_start» (numbersAt (now (bytes .entry)) 0) ⌝ }
+    ensures { λ r. ⌜ saidMoved r ≡ answerTo UnshiftAll (now (bytes .entry)) ikey «shift_count» «suffix_start» ⌝ }
 {
     if inside::is_fit(bytes, ikey, shift_count, suffix_start) {
         return Moved::At(inside::layer(bytes, 0));

@@ -26,6 +26,7 @@ use Rattle.leaf_entries.specs.declared.Entry.{Entry}
 use Rattle.leaf.specs.Leaf.{none, slotsOf, inOrder, against, isLess, lentRight, Lent, Cell, ofKind, goodEntries}
 use Rattle.leaf.specs.Search.{
   found,
+  givenBack,
   conflict,
   layer,
   notFound,
@@ -154,13 +155,13 @@ module _ {word : ℕ} {entries : List Entry} {cells bytes key : List ℕ} {ikey 
 -- ---- what is refused, and in which order
 
 module _ (word : ℕ) (key : List ℕ) (ikey shifts start : ℕ) {r : Bool} (e : r ≡ fits key ikey shifts start) where
-  pub unlent-key : not r ≡ true → refused Key (word ∷ []) ≡ unlentSaid word key ikey shifts start
+  pub unlent-key : {x : Answer} → not r ≡ true → x ≡ refused Key (givenBack word ikey shifts start) → x ≡ unlentSaid word key ikey shifts start
   unfolding unlentSaid
-  unlent-key q = rw (← e, not-true r q)
+  unlent-key q u = u ∙ rw (← e, not-true r q)
 
-  pub unlent-memory : not r ≡ false → refused Memory (word ∷ []) ≡ unlentSaid word key ikey shifts start
+  pub unlent-memory : {x : Answer} → not r ≡ false → x ≡ refused Memory (givenBack word ikey shifts start) → x ≡ unlentSaid word key ikey shifts start
   unfolding unlentSaid
-  unlent-memory q = rw (← e, not-false r q)
+  unlent-memory q u = u ∙ rw (← e, not-false r q)
 
 pub told-yes : {r b : Bool} → r ≡ b → not r ≡ false → b ≡ true
 told-yes {r} e q = sym e ∙ not-false r q
@@ -169,14 +170,14 @@ module _ (word : ℕ) (entries : List Entry) (cells bytes key : List ℕ) (ikey 
   abbrev among : Answer
   among = lentSaid word entries cells bytes key ikey shifts start
 
-  pub lent-bad : not g ≡ true → refused Node (word ∷ []) ≡ among
+  pub lent-bad : {x : Answer} → not g ≡ true → x ≡ refused Node (givenBack word ikey shifts start) → x ≡ among
   unfolding lentSaid
-  lent-bad q = rw (← eg, not-true g q)
+  lent-bad q u = u ∙ rw (← eg, not-true g q)
 
   module _ (qg : not g ≡ false) {f : Bool} (ef : f ≡ fits key ikey shifts start) where
-    pub lent-key : not f ≡ true → refused Key (word ∷ []) ≡ among
+    pub lent-key : {x : Answer} → not f ≡ true → x ≡ refused Key (givenBack word ikey shifts start) → x ≡ among
     unfolding lentSaid
-    lent-key q = rw (← eg, not-false g qg, ← ef, not-true f q)
+    lent-key q u = u ∙ rw (← eg, not-false g qg, ← ef, not-true f q)
 
     pub lent-searchable : not f ≡ false → validWord 15 word ≡ true → lentRight cells bytes ≡ true → Searchable word entries cells bytes key ikey shifts start
     lent-searchable q v l = record { word-valid = v; lent = l; good = told-yes eg qg; fit = told-yes ef q }
@@ -189,9 +190,9 @@ module _ (word : ℕ) (entries : List Entry) (cells bytes key : List ℕ) (ikey 
   abbrev said : Answer
   said = searchSaid word entries cells bytes key ikey shifts start
 
-  pub said-word : not v ≡ true → refused Node (word ∷ []) ≡ said
+  pub said-word : {x : Answer} → not v ≡ true → x ≡ refused Node (givenBack word ikey shifts start) → x ≡ said
   unfolding searchSaid
-  said-word q = rw (← ev, not-true v q)
+  said-word q u = u ∙ rw (← ev, not-true v q)
 
   module _ (qv : not v ≡ false) {l : Bool} (el : l ≡ lentRight cells bytes) {x : Answer} where
     pub said-unlent : not l ≡ true → x ≡ unlentSaid word key ikey shifts start → x ≡ said

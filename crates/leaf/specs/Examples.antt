@@ -26,11 +26,12 @@ searchedFor key =
 abbrev pub withIkeys : List ℕ → List Entry
 withIkeys ikeys = map (λ k. record { ikey = k; class = 0; at = 0 }) ikeys
 
--- `61` belongs before `6100`, and `6100` is found
+-- `61` is not found, and belongs before `6100`
 pub filed-before : searchedFor (0x61 ∷ []) ≡ accepted (notFound 0)
 unfolding searchSaid outcome every firstWhere viewed rising lentRight cellRight ofKind goodEntries validWord valid eachOnce count nibbles pack sorted listed fits reached ikeyAt bigEndian
 filed-before = refl
 
+-- `6100` is found, in slot 0
 pub found-there : searchedFor (0x61 ∷ 0x00 ∷ []) ≡ accepted (found 0)
 unfolding searchSaid outcome metWith every firstWhere viewed rising lentRight cellRight ofKind goodEntries validWord valid eachOnce count nibbles pack sorted listed fits reached ikeyAt bigEndian
 found-there = refl

@@ -19,26 +19,33 @@ use Rattle.leaf.specs.declared.Searched.the-variants.{Found, Conflict, L
 use Rattle.leaf.specs.Lists.{firstWhere}
 use Rattle.leaf.specs.Leaf.{none, slotsOf, inOrder, rank, against, isLess, lentRight, goodEntries}
 
--- The values of an accepted search: which outcome, and the slot or the position.
+-- the values of an accepted search that found the key: 0, and its slot
 abbrev pub found : ℕ → List ℕ
 found slot = 0 ∷ slot ∷ []
 
+-- of a conflict: 1, and the slot of the other key
 abbrev pub conflict : ℕ → List ℕ
 conflict slot = 1 ∷ slot ∷ []
 
+-- of a link with this ikey: 2, and its slot
 abbrev pub layer : ℕ → List ℕ
 layer slot = 2 ∷ slot ∷ []
 
+-- of a key that is not there: 3, and the first position whose entry is greater, or the size
 abbrev pub notFound : ℕ → List ℕ
 notFound position = 3 ∷ position ∷ []
 
--- what each case of the answer says: 0, the outcome and its number, or the refusal's number and the word as given
+-- what comes back where a search is refused: the word, and the key's three numbers
+abbrev pub givenBack : ℕ → ℕ → ℕ → ℕ → List ℕ
+givenBack word ikey shifts start = word ∷ ikey ∷ shifts ∷ start ∷ []
+
+-- what each case of the answer says: 0, the outcome and its number, or the refusal's number and what was given
 abbrev pub saidSearched : Searched → Answer
 saidSearched (Found slot) = accepted (found slot)
 saidSearched (Conflict slot) = accepted (conflict slot)
 saidSearched (Layer slot) = accepted (layer slot)
 saidSearched (NotFound position) = accepted (notFound position)
-saidSearched (Refused why word) = refused why (word ∷ [])
+saidSearched (Refused why word ikey shifts start) = refused why (givenBack word ikey shifts start)
 
 -- the outcome at an entry with the key's ikey and class: a link is a layer; of two longer ones the suffixes decide between
 -- found and conflict; with up to 8 bytes ikey and length say all
@@ -97,19 +104,19 @@ unfoldable pub searchSaid : ℕ → List Entry → List ℕ → List ℕ → Lis
 searchSaid word entries cells bytes key ikey shifts start =
     answered (searchRules word entries cells bytes key ikey shifts start)
     (outcome word entries cells bytes key ikey (classAt key (8 * shifts)) start)
-    (word ∷ [])
+    (givenBack word ikey shifts start)
 
 -- the rest of the rules where the word is valid and the lent lengths are wrong
 unfoldable pub unlentSaid : ℕ → List ℕ → ℕ → ℕ → ℕ → Answer
 unlentSaid word key ikey shifts start =
-    answered ((7 unless fits key ikey shifts start) ∷ (10 unless false) ∷ []) [] (word ∷ [])
+    answered ((7 unless fits key ikey shifts start) ∷ (10 unless false) ∷ []) [] (givenBack word ikey shifts start)
 
 -- the rest of the rules where the word is valid and the lent lengths are right
 unfoldable pub lentSaid : ℕ → List Entry → List ℕ → List ℕ → List ℕ → ℕ → ℕ → ℕ → Answer
 lentSaid word entries cells bytes key ikey shifts start =
     answered ((3 unless goodEntries cells (inOrder word entries)) ∷ (7 unless fits key ikey shifts start) ∷ [])
     (outcome word entries cells bytes key ikey (classAt key (8 * shifts)) start)
-    (word ∷ [])
+    (givenBack word ikey shifts start)
 
 -- what the scan may count on: nothing of the leaf, the cells and the key is to be refused
 pub record Searchable (word : ℕ) (entries : List Entry) (cells bytes key : List ℕ) (ikey shifts start : ℕ) : Type 0 where

@@ -4,11 +4,11 @@ ghost use mathlib.Core.Path.{_≡_};
 ghost use mathlib.Core.Bool.{true};
 ghost use Prim.Native.Nat.{_*_, _≤_};
 ghost use lib.ListN.{length};
-ghost use Rattle.refusal.specs.Answer.{accepted};
+ghost use Rattle.refusal.specs.Answer.{accepted, refused};
 ghost use Rattle.nibbles.specs.Words.{validWord};
 ghost use Rattle.order.specs.Layer.{classAt};
 ghost use Rattle.leaf.specs.Leaf.{lentRight, ofKind};
-ghost use Rattle.leaf.specs.Search.{saidSearched, metWith, outcome, unlentSaid, lentSaid, Searchable};
+ghost use Rattle.leaf.specs.Search.{saidSearched, givenBack, metWith, outcome, unlentSaid, lentSaid, Searchable};
 use crate::Entry;
 use crate::Searched;
 use ikey::Ordering;
@@ -26,6 +26,25 @@ pub use lent_cells::inside::is_cell;
 pub use lent_cells::inside::is_suffix;
 use refusal::Refusal;
 
+// A refusal, with the word and the key's numbers as they were given.
+pub fn refuse(
+    why: Refusal,
+    word: u64,
+    ikey: u64,
+    shift_count: usize,
+    suffix_start: usize,
+) -> Searched
+    ensures { λ r. ⌜ saidSearched r ≡ refused why (givenBack word ikey «shift_count» «suffix_start») ⌝ }
+{
+    Searched::Refused {
+        why,
+        word,
+        ikey,
+        shift_count,
+        suffix_start,
+    }
+}
+
 // What is answered with wrong lent lengths, where the word is valid.
 pub fn not_lent(
     word: u64,
@@ -37,15 +56,9 @@ pub fn not_lent(
     ensures { λ r. ⌜ saidSearched r ≡ unlentSaid word (now (key .entry)) ikey «shift_count» «suffix_start» ⌝ }
 {
     if !key::inside::is_fit(key, ikey, shift_count, suffix_start) {
-        return Searched::Refused {
-            why: Refusal::Key,
-            word,
-        };
+        return refuse(Refusal::Key, word, ikey, shift_count, suffix_start);
     }
-    Searched::Refused {
-        why: Refusal::Memory,
-        word,
-    }
+    refuse(Refusal::Memory, word, ikey, shift_count, suffix_start)
 }
 
 // The outcome at an entry that has the key's ikey and class.
@@ -117,16 +130,10 @@ pub fn in_lent(
     ensures { λ r. ⌜ saidSearched r ≡ lentSaid word entries (now (cells .entry)) (now (bytes .entry)) (now (key .entry)) ikey «shift_count» «suffix_start» ⌝ }
 {
     if !are_good(word, entries, cells) {
-        return Searched::Refused {
-            why: Refusal::Node,
-            word,
-        };
+        return refuse(Refusal::Node, word, ikey, shift_count, suffix_start);
     }
     if !key::inside::is_fit(key, ikey, shift_count, suffix_start) {
-        return Searched::Refused {
-            why: Refusal::Key,
-            word,
-        };
+        return refuse(Refusal::Key, word, ikey, shift_count, suffix_start);
     }
     scan(
         word,

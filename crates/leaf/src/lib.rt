@@ -7,13 +7,19 @@ use refusal::Refusal;
 
 pub mod inside;
 
-// What a search finds: the slot of the entry that it met, or the position where the key belongs.
+// What a search finds: the slot of the entry that it met, or the position where the key belongs. Refused, the word and the key's numbers.
 pub enum Searched {
     Found(usize),
     Conflict(usize),
     Layer(usize),
     NotFound(usize),
-    Refused { why: Refusal, word: u64 },
+    Refused {
+        why: Refusal,
+        word: u64,
+        ikey: u64,
+        shift_count: usize,
+        suffix_start: usize,
+    },
 }
 
 // The entry for a key in a leaf, or the place where one belongs.
@@ -30,10 +36,7 @@ pub fn search(
     ensures { λ r. ⌜ saidSearched r ≡ searchSaid word entries (now (cells .entry)) (now (bytes .entry)) (now (key .entry)) ikey «shift_count» «suffix_start» ⌝ }
 {
     if !inside::is_valid(word) {
-        return Searched::Refused {
-            why: Refusal::Node,
-            word,
-        };
+        return inside::refuse(Refusal::Node, word, ikey, shift_count, suffix_start);
     }
     if !inside::are_lent(cells, bytes) {
         return inside::not_lent(word, key, ikey, shift_count, suffix_start);

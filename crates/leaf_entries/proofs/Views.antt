@@ -6,6 +6,7 @@ use mathlib.Core.List.{List, [], _∷_}
 use native.Mathlib.Omega.{arith}
 use lib.ListN.{length, getD, length-map}
 use lib.Seq.{length-take-le, getD-take}
+use borrow.Author.Needs.{needs}
 use Rattle.refusal.specs.Answer.{Answer, accepted, refused}
 use Rattle.refusal.specs.declared.Refusal.{Refusal}
 use Rattle.refusal.proofs.Laws.{number-pos}
@@ -58,6 +59,10 @@ module _ (word : ℕ) {r : Changed} (e : saidChanged r ≡ changed 15 word fromV
       by true d = absurd (omega (arith, ap (λ (a : Answer). a .number) d, number-pos why))
       by false d = refl
 
+-- the slot at a position
+pub slot-in-word : (word i : ℕ) → i < 15 → {slot : ℕ} → slot ≡ word / 2 ^ (4 * (i + 1)) % 16 → slot ≡ slotAt i (slotsOf word)
+slot-in-word word i l e = e ∙ sym (slot-here 15 word i l)
+
 module _ (word : ℕ) (v : validWord 15 word ≡ true) where
   pub good-word : Good 15 word
   good-word = good-valid 15 word refl v
@@ -65,17 +70,13 @@ module _ (word : ℕ) (v : validWord 15 word ≡ true) where
   pub size-in-width : word % 16 ≤ width (slotsOf word)
   size-in-width = rw (length-nibbles 15 (word / 16)) (good-word .sized)
 
-  module _ (i : ℕ) (l : i < word % 16) where
-    pub slot-in-word : word / 2 ^ (4 * (i + 1)) % 16 ≡ slotAt i (slotsOf word)
-    slot-in-word = sym (slot-here 15 word i (omega (arith, good-word .sized)))
-
-    pub slot-fifteen : word / 2 ^ (4 * (i + 1)) % 16 < 15
-    slot-fifteen =
-        rw slot-in-word
-        (let z : slotAt i (slotsOf word) < 15
-        = subst (λ (n : ℕ). slotAt i (slotsOf word) < n) (length-nibbles 15 (word / 16))
-        (slot-lt (nibbles 15 (word / 16)) (good-word .once) i (omega (arith, size-in-width))) in
-        z)
+  pub slot-fifteen : (i : ℕ) → i < 15 → {slot : ℕ} → slot ≡ slotAt i (slotsOf word) → slot < 15
+  slot-fifteen i l e =
+      rw e
+      (let z : slotAt i (slotsOf word) < 15
+      = subst (λ (n : ℕ). slotAt i (slotsOf word) < n) (length-nibbles 15 (word / 16))
+      (slot-lt (nibbles 15 (word / 16)) (good-word .once) i (omega (arith, length-nibbles 15 (word / 16)))) in
+      z)
 
   module _ (entries : List Entry) where
     pub length-in-order : length (inOrder word entries) ≡ word % 16
@@ -87,4 +88,4 @@ module _ (word : ℕ) (v : validWord 15 word ≡ true) where
     entry-in-order i l e =
         viewed-at (slotsOf word) entries size-in-width i l ∙ ap (λ (s : ℕ). getD entries s none) (sym e)
 
-pub ruleset words = (valid-yes, valid-no, slot-in-word, slot-fifteen)
+pub ruleset words = (needs, valid-yes, valid-no, slot-in-word, slot-fifteen)

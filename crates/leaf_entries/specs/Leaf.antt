@@ -43,6 +43,7 @@ rank e = classOf (e .class)
 abbrev pub against : ℕ → ℕ → Entry → Ordering
 against ikey class e = atLayer ikey class (e .ikey) (rank e)
 
+-- a comparison that says less
 abbrev pub isLess : Ordering → Bool
 isLess Ordering·lt = true
 isLess Ordering·eq = false

@@ -2,7 +2,7 @@
 // what a caller must know stands in `requires`.
 ghost use mathlib.Core.Path.{_≡_};
 ghost use mathlib.Core.Bool.{true};
-ghost use Prim.Native.Nat.{_%_, _<_};
+ghost use Prim.Native.Nat.{_<_};
 ghost use Rattle.bank.specs.Bank.{slotAt};
 ghost use Rattle.nibbles.specs.Words.{validWord};
 ghost use Rattle.order.specs.Layer.{classOf};
@@ -12,6 +12,8 @@ ghost use Rattle.leaf_entries.specs.Leaf.{slotsOf, inOrder, against, les
 use crate::Entry;
 use ikey::Ordering;
 use lent_cells::inside::is_cell;
+use nibbles::inside::nibble;
+pub use nibbles::inside::size_of;
 use permuter::Changed;
 
 // The rule of a leaf's slot word.
@@ -24,19 +26,20 @@ pub fn is_valid(word: u64) -> bool
     true
 }
 
-// How many slots are in use.
-pub fn size_of(word: u64) -> usize
-    ensures { λ r. ⌜ r ≡ word % 16 ⌝ }
+// The slot at a position of any word.
+pub fn slot_of(word: u64, i: usize) -> usize
+    requires { ⌜ i < 15 ⌝ }
+    ensures { λ r. ⌜ (r ≡ slotAt i (slotsOf word)) × (r < 16) ⌝ }
 {
-    (word % 16) as usize
+    nibble(word, i + 1)
 }
 
-// The slot at a position in use.
+// The slot at a position of a valid word.
 pub fn slot_at(word: u64, i: usize) -> usize
-    requires { ⌜ (validWord 15 word ≡ true) × (i < word % 16) ⌝ }
+    requires { ⌜ (validWord 15 word ≡ true) × (i < 15) ⌝ }
     ensures { λ r. ⌜ (r ≡ slotAt i (slotsOf word)) × (r < 15) ⌝ }
 {
-    ((word >> (4 * (i + 1))) % 16) as usize
+    slot_of(word, i)
 }
 
 // An entry of the kind that a leaf holds.

@@ -11,7 +11,7 @@ use Rattle.refusal.specs.declared.Refusal.the-variants.{Node}
 use Rattle.nibbles.specs.Words.{validWord}
 use Rattle.key.specs.Keys.{fits}
 use Rattle.leaf_entries.specs.declared.Entry.{Entry}
-use Rattle.leaf.specs.Search.{searchSaid, unlentSaid}
+use Rattle.leaf.specs.Search.{givenBack, searchSaid, unlentSaid}
 use Rattle.lent_leaf.specs.Search.{lentSearchSaid, otherCountSaid}
 
 and-yes : (b : Bool) → b && true ≡ b
@@ -32,13 +32,15 @@ module _ (word : ℕ) (entries : List Entry) (cells bytes key : List ℕ) (ikey 
   other-said ne = rw (ne-eqb (length entries) 15 ne) (ap judging (and-yes (validWord 15 word)))
     where
       judging : Bool → Answer
-      judging valid = answered ((3 unless valid) ∷ (7 unless fits key ikey shifts start) ∷ (10 unless false) ∷ []) [] (word ∷ [])
+      judging valid = answered ((3 unless valid) ∷ (7 unless fits key ikey shifts start) ∷ (10 unless false) ∷ []) []
+          (givenBack word ikey shifts start)
 
 -- a law for each way in which `unlent` returns
 module _ (word : ℕ) (key : List ℕ) (ikey shifts start : ℕ) {v : Bool} (ev : v ≡ validWord 15 word) where
-  pub other-word : not v ≡ true → refused Node (word ∷ []) ≡ otherCountSaid word key ikey shifts start
+  pub other-word : {x : Answer} → not v ≡ true → x ≡ refused Node (givenBack word ikey shifts start) → x ≡ otherCountSaid word key ikey
+      shifts start
   unfolding otherCountSaid
-  other-word q = rw (← ev, not-true v q)
+  other-word q e = e ∙ rw (← ev, not-true v q)
 
   pub other-rest : {x : Answer} → not v ≡ false → x ≡ unlentSaid word key ikey shifts start → x ≡ otherCountSaid word key ikey shifts start
   unfolding otherCountSaid unlentSaid

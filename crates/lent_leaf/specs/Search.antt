@@ -10,7 +10,7 @@ use Rattle.order.specs.Layer.{classAt}
 use Rattle.key.specs.Keys.{fits}
 use Rattle.leaf_entries.specs.declared.Entry.{Entry}
 use Rattle.leaf.specs.Leaf.{inOrder, lentRight, goodEntries}
-use Rattle.leaf.specs.Search.{outcome}
+use Rattle.leaf.specs.Search.{outcome, givenBack}
 
 -- right lent lengths: fifteen entries, and cells and bytes that are right
 abbrev pub allRight : List Entry → List ℕ → List ℕ → Bool
@@ -29,10 +29,10 @@ unfoldable pub lentSearchSaid : ℕ → List Entry → List ℕ → List ℕ →
 lentSearchSaid word entries cells bytes key ikey shifts start =
     answered (lentSearchRules word entries cells bytes key ikey shifts start)
     (outcome word entries cells bytes key ikey (classAt key (8 * shifts)) start)
-    (word ∷ [])
+    (givenBack word ikey shifts start)
 
 -- the rules where the number of entries is not fifteen
 unfoldable pub otherCountSaid : ℕ → List ℕ → ℕ → ℕ → ℕ → Answer
 otherCountSaid word key ikey shifts start =
     answered ((3 unless validWord 15 word) ∷ (7 unless fits key ikey shifts start) ∷ (10 unless false) ∷ []) []
-    (word ∷ [])
+    (givenBack word ikey shifts start)

@@ -12,10 +12,7 @@ pub fn unlent(word: u64, key: &[u8], ikey: u64, shift_count: usize, suffix_start
     ensures { λ r. ⌜ saidSearched r ≡ otherCountSaid word (now (key .entry)) ikey «shift_count» «suffix_start» ⌝ }
 {
     if !leaf::inside::is_valid(word) {
-        return Searched::Refused {
-            why: Refusal::Node,
-            word,
-        };
+        return leaf::inside::refuse(Refusal::Node, word, ikey, shift_count, suffix_start);
     }
     leaf::inside::not_lent(word, key, ikey, shift_count, suffix_start)
 }

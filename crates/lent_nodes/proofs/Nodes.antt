@@ -5,12 +5,11 @@ use mathlib.Core.Logic.{⊎-elim, _⊎_, inl, inr}
 use Prim.Native.Nat.{ℕ, _+_, _≤_, _<_}
 use native.Mathlib.Omega.{arith}
 use lib.ListN.{length, getD, set, length-append, length-set, length-replicate}
-use lib.Seq.{getD-set-other}
 use Rattle.lent_nodes.specs.declared.inside.Leaf.{Leaf}
 use Rattle.lent_nodes.specs.declared.inside.Internode.{Internode}
 use Rattle.lent_words.specs.Parts.{part, putPart, zeros}
 use Rattle.lent_nodes.specs.Layout.{nodeStart, nodeAt, putNode, kindAt, wordAt, leafOf, leafWords, leafAt, putLeaf, internodeOf, internodeWords, internodeAt, putInternode, freeWords, freedNode, WholeLeaf, WholeInternode}
-use Rattle.lent_words.proofs.Words.{part-at, part-ext, part-part, part-kept, put-put, put-same, put-out, put-left, put-length, first-put, set-put, middle, lt-or-ge}
+use Rattle.lent_words.proofs.Words.{part-at, part-part, part-kept, put-put, put-same, put-out, put-left, put-length, first-put, set-put, middle, lt-or-ge}
 
 -- ---- the words of a node
 
@@ -82,24 +81,11 @@ module _ (m : List ℕ) (k : ℕ) (fits : nodeStart k + 47 ≤ length m) where
   pub node-freed : nodeAt (freedNode m k) k ≡ freeWords
   node-freed = node-stored m k fits freeWords free-length
 
--- the root is no part of a node
-pub root-set : (m : List ℕ) (r k : ℕ) → nodeStart k + 47 ≤ length m → nodeAt (set m 0 r) k ≡ nodeAt m k
-root-set m r k h =
-    part-ext (set m 0 r) m (nodeStart k) (nodeStart k) 47 (rw length-set h) h (λ i l. getD-set-other m 0 (nodeStart k + i) r 0 (λ e. omega arith))
-
 -- ---- as the code has them, one after the other
 
 module _ (m : List ℕ) (k : ℕ) (fits : nodeStart k + 47 ≤ length m) where
   pub word-loaded : (i : ℕ) → i < 47 → getD (nodeAt m k) i 0 ≡ wordAt m k i
   word-loaded i h = part-at m (nodeStart k) 47 i h
-
-  pub leaf-loaded : {w : ℕ} {i c r : List ℕ} → w ≡ getD m (nodeStart k + 1) 0 → i ≡ part m (nodeStart k + 2) 15
-      → c ≡ part m (nodeStart k + 17) 15 → r ≡ part m (nodeStart k + 32) 15
-      → record { word = w; ikeys = i; classes = c; refs = r } ≡ leafAt m k
-  unfolding leafOf
-  leaf-loaded ew ei ec er =
-      let p : (o : ℕ) → o + 15 ≤ 47 → part (nodeAt m k) o 15 ≡ part m (nodeStart k + o) 15 = λ o l. part-part m (nodeStart k) 47 o 15 fits l in
-      cc (word-loaded 1 (omega arith), p 2 (omega arith), p 17 (omega arith), p 32 (omega arith))
 
   pub internode-loaded : {n : ℕ} {i c : List ℕ} → n ≡ getD m (nodeStart k + 1) 0 → i ≡ part m (nodeStart k + 2) 15
       → c ≡ part m (nodeStart k + 17) 16 → record { n = n; ikeys = i; children = c } ≡ internodeAt m k

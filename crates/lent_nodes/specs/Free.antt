@@ -8,6 +8,7 @@ use Rattle.lent_nodes.specs.declared.inside.Lowest.{Lowest}
 use Rattle.lent_nodes.specs.declared.inside.Lowest.the-variants.{At, Nothing}
 use Rattle.lent_nodes.specs.Layout.{nodeStart, cellStart}
 
+-- a number in front of a list, where the test holds
 abbrev pub consIf : Bool → ℕ → List ℕ → List ℕ
 consIf true k ks = k ∷ ks
 consIf false k ks = ks
@@ -25,10 +26,11 @@ isFree place xs k = eqb (getD xs (place k) 0) 0
 abbrev pub frees : (ℕ → ℕ) → List ℕ → ℕ → List ℕ
 frees place xs n = passing (isFree place xs) 0 n
 
--- nodes whose kind is 0, and cells whose mark is 0
+-- the free ones of n nodes: those whose kind is 0
 abbrev pub freeNodes : List ℕ → ℕ → List ℕ
 freeNodes nodes n = frees nodeStart nodes n
 
+-- the free ones of n cells: those whose mark is 0
 abbrev pub freeCells : List ℕ → ℕ → List ℕ
 freeCells cells n = frees cellStart cells n
 

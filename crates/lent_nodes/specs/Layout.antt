@@ -38,6 +38,7 @@ unfoldable pub leafOf : List ℕ → Leaf
 leafOf ws =
     record { word = getD ws 1 0; ikeys = part ws 2 15; classes = part ws 17 15; refs = part ws 32 15 }
 
+-- the 47 words of a leaf
 abbrev pub leafWords : Leaf → List ℕ
 leafWords l = 1 ∷ l .word ∷ (l .ikeys ++ l .classes ++ l .refs)
 
@@ -45,6 +46,7 @@ leafWords l = 1 ∷ l .word ∷ (l .ikeys ++ l .classes ++ l .refs)
 unfoldable pub internodeOf : List ℕ → Internode
 internodeOf ws = record { n = getD ws 1 0; ikeys = part ws 2 15; children = part ws 17 16 }
 
+-- the 47 words of an internode
 abbrev pub internodeWords : Internode → List ℕ
 internodeWords x = 2 ∷ x .n ∷ (x .ikeys ++ x .children ++ zeros 14)
 
@@ -52,46 +54,52 @@ internodeWords x = 2 ∷ x .n ∷ (x .ikeys ++ x .children ++ zeros 14)
 abbrev pub freeWords : List ℕ
 freeWords = zeros 47
 
--- node k, read as a leaf and as an internode
+-- node k, read as a leaf
 abbrev pub leafAt : List ℕ → ℕ → Leaf
 leafAt nodes k = leafOf (nodeAt nodes k)
 
+-- node k, read as an internode
 abbrev pub internodeAt : List ℕ → ℕ → Internode
 internodeAt nodes k = internodeOf (nodeAt nodes k)
 
--- node k, written as a leaf, as an internode, and freed
+-- node k, written as a leaf
 abbrev pub putLeaf : List ℕ → ℕ → Leaf → List ℕ
 putLeaf nodes k l = putNode nodes k (leafWords l)
 
+-- node k, written as an internode
 abbrev pub putInternode : List ℕ → ℕ → Internode → List ℕ
 putInternode nodes k x = putNode nodes k (internodeWords x)
 
+-- node k, freed
 abbrev pub freedNode : List ℕ → ℕ → List ℕ
 freedNode nodes k = putNode nodes k freeWords
 
--- the columns of a leaf, and of an internode, are whole
+-- the three columns of a leaf are whole
 pub record WholeLeaf (l : Leaf) : Type 0 where
   pub ikeys-15 : length (l .ikeys) ≡ 15
   pub classes-15 : length (l .classes) ≡ 15
   pub refs-15 : length (l .refs) ≡ 15
 
+-- the two columns of an internode are whole
 pub record WholeInternode (x : Internode) : Type 0 where
   pub ikeys-15 : length (x .ikeys) ≡ 15
   pub children-16 : length (x .children) ≡ 16
 
 -- ---- cells: two words and 256 bytes for each
 
--- where the words of cell k start, and where its bytes do
+-- where the words of cell k start
 abbrev pub cellStart : ℕ → ℕ
 cellStart k = k * 2
 
+-- where the bytes of cell k start
 abbrev pub keyStart : ℕ → ℕ
 keyStart k = k * 256
 
--- the two words of cell k, and its 256 bytes
+-- the two words of cell k
 abbrev pub cellAt : List ℕ → ℕ → List ℕ
 cellAt cells k = part cells (cellStart k) 2
 
+-- the 256 bytes of cell k
 abbrev pub bytesAt : List ℕ → ℕ → List ℕ
 bytesAt bytes k = part bytes (keyStart k) 256
 
@@ -111,16 +119,18 @@ keyAt cells bytes k = part bytes (keyStart k) (markAt cells k - 1)
 abbrev pub keyBytes : List ℕ → List ℕ
 keyBytes key = key ++ zeros (256 - length key)
 
--- cell k with a key of this length and a frame, and the bytes with the key
+-- the words with a key of this length and a frame number in cell k
 abbrev pub putCell : List ℕ → ℕ → ℕ → ℕ → List ℕ
 putCell cells k len frame = putPart cells (cellStart k) ((len + 1) ∷ frame ∷ [])
 
+-- the bytes with this key in cell k
 abbrev pub putKey : List ℕ → ℕ → List ℕ → List ℕ
 putKey bytes k key = putPart bytes (keyStart k) (keyBytes key)
 
--- cell k free, and its bytes
+-- the words with cell k free
 abbrev pub freedCell : List ℕ → ℕ → List ℕ
 freedCell cells k = putPart cells (cellStart k) (zeros 2)
 
+-- the bytes with those of cell k zero
 abbrev pub freedKey : List ℕ → ℕ → List ℕ
 freedKey bytes k = putPart bytes (keyStart k) (zeros 256)

@@ -3,9 +3,9 @@
 ghost use mathlib.Core.Path.{_≡_};
 ghost use mathlib.Core.List.{List};
 ghost use Prim.Native.Nat.{ℕ, _+_, _-_, _*_, _≤_, _<_};
-ghost use lib.ListN.{length, set, getD};
+ghost use lib.ListN.{length};
 ghost use Rattle.lent_words.specs.Parts.{part};
-ghost use Rattle.lent_nodes.specs.Layout.{nodeStart, cellStart, keyStart, leafAt, internodeAt, putLeaf, putInternode, freedNode, kindAt, rootOf, markAt, frameAt, putCell, putKey, freedCell, freedKey};
+ghost use Rattle.lent_nodes.specs.Layout.{nodeStart, cellStart, keyStart, internodeAt, putLeaf, putInternode, freedNode, markAt, frameAt, putCell, putKey, freedCell, freedKey};
 ghost use Rattle.lent_nodes.specs.Free.{frees, every, freeNodes, freeCells, lowest};
 use lent_words::inside::copy_bytes;
 use lent_words::inside::put1;
@@ -38,23 +38,6 @@ pub enum Lowest {
 }
 
 // ---- nodes
-
-pub fn load_leaf(nodes: &[u64], k: usize) -> Leaf
-    requires { ⌜ nodeStart k + 47 ≤ length (now nodes) ⌝ }
-    ensures { λ r. ⌜ r ≡ leafAt (now (nodes .entry)) k ⌝ }
-{
-    let at = 2 + k * 47;
-    let word = nodes[at + 1];
-    let ikeys = words15(nodes, at + 2);
-    let classes = words15(nodes, at + 17);
-    let refs = words15(nodes, at + 32);
-    Leaf {
-        word,
-        ikeys,
-        classes,
-        refs,
-    }
-}
 
 pub fn store_leaf(nodes: &mut [u64], k: usize, leaf: Leaf)
     requires { ⌜ nodeStart k + 47 ≤ length (now nodes) ⌝ }
@@ -103,28 +86,6 @@ pub fn free_node(nodes: &mut [u64], k: usize)
     ensures { λ _. ⌜ now (nodes .exit) ≡ freedNode (now (nodes .entry)) k ⌝ }
 {
     zero_words(nodes, 2 + k * 47, 47);
-}
-
-// 0 free, 1 leaf, 2 internode.
-pub fn kind(nodes: &[u64], k: usize) -> u64
-    requires { ⌜ nodeStart k + 47 ≤ length (now nodes) ⌝ }
-    ensures { λ r. ⌜ r ≡ kindAt (now (nodes .entry)) k ⌝ }
-{
-    nodes[2 + k * 47]
-}
-
-pub fn root(nodes: &[u64]) -> u64
-    requires { ⌜ 2 ≤ length (now nodes) ⌝ }
-    ensures { λ r. ⌜ r ≡ rootOf (now (nodes .entry)) ⌝ }
-{
-    nodes[0]
-}
-
-pub fn set_root(nodes: &mut [u64], k: u64)
-    requires { ⌜ 2 ≤ length (now nodes) ⌝ }
-    ensures { λ _. ⌜ now (nodes .exit) ≡ set (now (nodes .entry)) 0 k ⌝ }
-{
-    nodes[0] = k;
 }
 
 // ---- cells

@@ -28,7 +28,7 @@ use Rattle.line_input.specs.Input.{
 
 -- ---- bytes without a line feed
 
-abbrev Clean : List ℕ → Type 0
+abbrev pub Clean : List ℕ → Type 0
 Clean s = upTo 10 s ≡ s
 
 clean-step : (t : Bool) (b : ℕ) (us bs : List ℕ) → cond t [] (b ∷ us) ≡ b ∷ bs → (t ≡ false) × (us ≡ bs)
@@ -80,13 +80,13 @@ line-first w s e =
     let v : behind 10 (w ++ (10 ∷ s)) ≡ split 10 s = behind-append w (10 ∷ s) e in
     rw (u, v) refl
 
-line-last : (w : List ℕ) → Clean w → linesOf w ≡ unlessEmpty w
+pub line-last : (w : List ℕ) → Clean w → linesOf w ≡ unlessEmpty w
 unfolding linesOf butEmptyLast behind
 line-last w e =
     let v : behind 10 w ≡ [] = ap (behind 10) (sym (append-nil w)) ∙ behind-append w [] e in
     rw (e, v) refl
 
-empty-kept : (n : ℕ) (w : List ℕ) → unlessEmpty (take (suc n) w) ≡ map (take (suc n)) (unlessEmpty w)
+pub empty-kept : (n : ℕ) (w : List ℕ) → unlessEmpty (take (suc n) w) ≡ map (take (suc n)) (unlessEmpty w)
 unfolding unlessEmpty
 empty-kept n [] = refl
 empty-kept n (b ∷ bs) = refl
@@ -106,10 +106,10 @@ take-over n w us =
 
 -- ---- a part gone through: `raw` is all of a line so far, `held` as much of it as is kept
 
-record Gone (turns : ℕ) (held raw p after : List ℕ) : Type 0 where
-  clean : Clean after
-  keeps : heldAfter turns held p ≡ kept after
-  says : (rest : List ℕ) → map kept (linesOf (raw ++ (p ++ rest))) ≡ linesIn turns held p ++ map kept (linesOf (after ++ rest))
+pub record Gone (turns : ℕ) (held raw p after : List ℕ) : Type 0 where
+  pub clean : Clean after
+  pub keeps : heldAfter turns held p ≡ kept after
+  pub says : (rest : List ℕ) → map kept (linesOf (raw ++ (p ++ rest))) ≡ linesIn turns held p ++ map kept (linesOf (after ++ rest))
 
 module _ (n : ℕ) (held raw p : List ℕ) (e : held ≡ kept raw) (c : Clean raw) where
   held-on : held ++ takenOver (length held) p ≡ kept (raw ++ upTo 10 p)
@@ -157,7 +157,7 @@ module _ (n : ℕ) (held raw p : List ℕ) (e : held ≡ kept raw) (c : Clean ra
         says = λ rest. rw t (ap (λ (l : List ℕ). map kept (linesOf l)) (sym (append-assoc raw p rest)));
       }
 
-gone-through : (n : ℕ) (held raw p : List ℕ) → held ≡ kept raw → Clean raw → length p < n → (after : List ℕ) × Gone n held raw p after
+pub gone-through : (n : ℕ) (held raw p : List ℕ) → held ≡ kept raw → Clean raw → length p < n → (after : List ℕ) × Gone n held raw p after
 unfolding upTo
 gone-through zero held raw p e c h = absurd (omega arith)
 gone-through (suc n) held raw p e c h =

@@ -7,11 +7,12 @@ use lib.ListN.{length, take, drop}
 use Rattle.text.specs.Split.{upTo, split}
 use Rattle.line_input.specs.declared.inside.Taken.{Taken}
 
--- every part but an empty last one
+-- a part alone, or none where it is empty
 unfoldable pub unlessEmpty : List ℕ → List (List ℕ)
 unlessEmpty [] = []
 unlessEmpty (b ∷ bs) = (b ∷ bs) ∷ []
 
+-- every part but an empty last one
 unfoldable pub butEmptyLast : List (List ℕ) → List (List ℕ)
 butEmptyLast [] = []
 butEmptyLast (p ∷ []) = unlessEmpty p

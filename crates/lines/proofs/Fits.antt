@@ -17,7 +17,7 @@ use Rattle.lines.specs.Answered.{listed, listing, printed, Answered, Roo
 use Rattle.lines.proofs.Replies.{refused-room}
 use Rattle.lines.proofs.Trees.{listing-fits}
 
-pub roomy : (m : Memory) {out : List ℕ} → ((i : ℕ) → getD (m .cells) i 0 < 2 ^ 64) → 136710 ≤ length out → Room m out
+pub roomy : (m : Memory) {out : List ℕ} → ((i : ℕ) → getD (m .cells) i 0 < 2 ^ 64) → 136182 ≤ length out → Room m out
 unfolding listed
 roomy m words h =
     record {
@@ -25,7 +25,7 @@ roomy m words h =
       long =
           decide (isTree m)
           (λ t. rw t (omega (arith, listing-fits m words t)))
-          (λ t. rw t (omega (arith, refused-room {n = 10} {l = 136710} (omega arith) (omega arith))));
+          (λ t. rw t (omega (arith, refused-room {n = 10} {l = 136182} (omega arith) (omega arith))));
     }
 
 -- what is printed stands within the lent bytes

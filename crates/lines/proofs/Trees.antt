@@ -41,7 +41,7 @@ module _ (m : Memory) (words : (i : ℕ) → getD (m .cells) i 0 < 2 ^ 64) where
   entries-fit (_a∷_ {x = c} {xs = cs} h hs) =
       omega (arith, length-append (entryText m c) (entryTexts m cs), entry-fits c h, entries-fit hs)
 
-  pub listing-fits : isTree m ≡ true → length (listing m) ≤ 136710
+  pub listing-fits : isTree m ≡ true → length (listing m) ≤ 136182
   unfolding listing
   listing-fits tree =
       let (v, t) = tree-found m (holds tree) in

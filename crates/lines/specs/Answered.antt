@@ -22,6 +22,7 @@ unlessRefused a text = cond (eqb (a .number) 0) text (refusedLine (a .number))
 abbrev pub entryText : Memory → ℕ → List ℕ
 entryText m c = entryLine (keyAt (m .cells) (m .bytes) c) (frameAt (m .cells) c)
 
+-- the same for each of these cells, one after the other
 unfoldable pub entryTexts : Memory → List ℕ → List ℕ
 entryTexts m [] = []
 entryTexts m (c ∷ cs) = entryText m c ++ entryTexts m cs
@@ -30,6 +31,7 @@ entryTexts m (c ∷ cs) = entryText m c ++ entryTexts m cs
 unfoldable pub listing : Memory → List ℕ
 listing m = headerLine (length (inKeyOrder m)) ++ entryTexts m (inKeyOrder m)
 
+-- what `list` prints: the listing, or `refused 10` where memory is no tree
 unfoldable pub listed : Memory → List ℕ
 listed m = cond (isTree m) (listing m) (refusedLine 10)
 

@@ -41,10 +41,10 @@ fn put(
     ensures { λ r. ⌜ Answered (memory (now (nodes .entry)) (now (cells .entry)) (now (bytes .entry))) (Command·put (now (key .entry)) frame) (now (out .entry)) r (memory (now (nodes .exit)) (now (cells .exit)) (now (bytes .exit))) (now (out .exit)) ⌝ }
 {
     let answer = index::put(nodes, cells, bytes, key, frame);
-    if let Added::Refused(why) = answer {
-        return refused(out, why);
+    match answer {
+        Added::Done => page::inside::ok(out, 0),
+        Added::Refused(why) => refused(out, why),
     }
-    page::inside::ok(out, 0)
 }
 
 // Takes a key out and prints `ok`, or the refusal.
@@ -53,10 +53,10 @@ fn del(nodes: &mut [u64], cells: &mut [u64], bytes: &mut [u8], key: &[u8], out: 
     ensures { λ r. ⌜ Answered (memory (now (nodes .entry)) (now (cells .entry)) (now (bytes .entry))) (Command·del (now (key .entry))) (now (out .entry)) r (memory (now (nodes .exit)) (now (cells .exit)) (now (bytes .exit))) (now (out .exit)) ⌝ }
 {
     let answer = index::remove(nodes, cells, bytes, key);
-    if let Removed::Refused(why) = answer {
-        return refused(out, why);
+    match answer {
+        Removed::Done => page::inside::ok(out, 0),
+        Removed::Refused(why) => refused(out, why),
     }
-    page::inside::ok(out, 0)
 }
 
 // Prints the frame number of a key, or the refusal.

@@ -20,7 +20,7 @@ use Rattle.model.specs.Leaves.{entryTaken}
 use Rattle.model.specs.Needed.{needIn, layersOf}
 use Rattle.model.specs.Grow.{Label, entryFor, layerGrown, layersGrown}
 
--- how many nodes and cells are lent
+-- how many nodes are lent
 abbrev pub nodesOf : Memory → ℕ
 nodesOf m = nodeCount (length (m .nodes))
 

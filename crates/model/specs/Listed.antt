@@ -16,7 +16,7 @@ abbrev pub cellsOf : (ℕ → List ℕ) → Ref → List ℕ
 cellsOf below (cell c) = c ∷ []
 cellsOf below (link root) = below root
 
--- a leaf's
+-- the cells of a leaf, in order, with those of the layers below its links
 unfoldable pub cellsOfLeaf : (ℕ → List ℕ) → List ℕ → ℕ → List ℕ
 cellsOfLeaf below nodes n = flattened (λ e. cellsOf below (e .1)) (map seenAs (entriesAt nodes n))
 

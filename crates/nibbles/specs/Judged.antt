@@ -12,5 +12,6 @@ abbrev pub orElse : Bool → Refusal → Verdict → Verdict
 orElse true why rest = rest
 orElse false why rest = No why
 
+-- 1 unless the width is 1 to 15, 2 unless the word is valid; else fine
 unfoldable pub judged : ℕ → ℕ → Verdict
 judged w word = orElse (goodWidth w) Width (orElse (validWord w word) Word Fine)

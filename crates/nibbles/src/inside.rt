@@ -11,6 +11,7 @@ use refusal::Refusal;
 // Nibble i is i.
 const RISING: u64 = 0xFEDC_BA98_7654_3210;
 
+// Whether a word may be used at its width.
 pub enum Verdict {
     Fine,
     No(Refusal),

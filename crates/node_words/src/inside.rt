@@ -1,13 +1,12 @@
-// A word of a node, a slot of a leaf's word and an entry in a slot, whether or not they stand in lent memory. What a caller must know stands
-// in `requires`.
+// A word of a node and an entry in a slot, whether or not they stand in lent memory; the slot at a position of a leaf's word is passed on.
+// What a caller must know stands in `requires`.
 ghost use mathlib.Core.Path.{_≡_};
 ghost use Prim.Native.Nat.{_≤_, _<_};
 ghost use lib.ListN.{length};
-ghost use Rattle.bank.specs.Bank.{slotAt};
-ghost use Rattle.leaf.specs.Leaf.{slotsOf};
 ghost use Rattle.arena.specs.Layout.{wordAt};
 ghost use Rattle.forest.specs.Nodes.{entryAt};
 use leaf::Entry;
+pub use leaf_entries::inside::slot_of;
 
 // Word i of node n, 0 where there is no such node.
 pub fn word_of(nodes: &[u64], n: u64, i: usize) -> u64
@@ -22,14 +21,6 @@ pub fn word_of(nodes: &[u64], n: u64, i: usize) -> u64
         return 0;
     }
     nodes[at]
-}
-
-// The slot at a position of any word.
-pub fn slot_of(word: u64, i: usize) -> usize
-    requires { ⌜ i < 15 ⌝ }
-    ensures { λ r. ⌜ (r ≡ slotAt i (slotsOf word)) × (r < 16) ⌝ }
-{
-    ((word >> (4 * (i + 1))) % 16) as usize
 }
 
 // The entry in a slot of node n.

@@ -28,6 +28,7 @@ unfoldable pub keyShown : List ℕ → List ℕ
 keyShown [] = dash
 keyShown (b ∷ bs) = hexOf (b ∷ bs)
 
+-- the line feed
 abbrev pub lineFeed : List ℕ
 lineFeed = 10 ∷ []
 
@@ -39,10 +40,11 @@ okLine = 111 ∷ 107 ∷ 10 ∷ []
 abbrev pub badLine : List ℕ
 badLine = 98 ∷ 97 ∷ 100 ∷ 32 ∷ 108 ∷ 105 ∷ 110 ∷ 101 ∷ 10 ∷ []
 
--- `refused N`
+-- what stands before the number of a refusal
 abbrev pub refusedWord : List ℕ
 refusedWord = 114 ∷ 101 ∷ 102 ∷ 117 ∷ 115 ∷ 101 ∷ 100 ∷ 32 ∷ []
 
+-- `refused N`
 unfoldable pub refusedLine : ℕ → List ℕ
 refusedLine n = refusedWord ++ decimal n ++ lineFeed
 
@@ -50,10 +52,11 @@ refusedLine n = refusedWord ++ decimal n ++ lineFeed
 unfoldable pub numberLine : ℕ → List ℕ
 numberLine n = decimal n ++ lineFeed
 
--- `N entries`
+-- what stands behind the number of entries
 abbrev pub entriesWord : List ℕ
 entriesWord = 32 ∷ 101 ∷ 110 ∷ 116 ∷ 114 ∷ 105 ∷ 101 ∷ 115 ∷ 10 ∷ []
 
+-- `N entries`
 unfoldable pub headerLine : ℕ → List ℕ
 headerLine n = decimal n ++ entriesWord
 

@@ -1,12 +1,7 @@
 -- An answer is known by what it says: each contract leaves one outcome. Assumes nothing.
 use mathlib.Core.Path.{_≡_, sym, ap, ap₂}
-use Prim.Native.Nat.{ℕ}
-use native.Mathlib.Omega.{arith}
-use lib.ListN.{getD}
-use Rattle.refusal.specs.Answer.{Answer}
-use Rattle.refusal.specs.declared.Refusal.{Refusal}
-use Rattle.refusal.specs.Refusals.{numberOf}
-use Rattle.refusal.proofs.Laws.{number-one, number-pos}
+use Rattle.refusal.proofs.Laws.{number-one}
+use Rattle.refusal.proofs.One.{number-of, value-of, differ}
 use Rattle.slot_answers.specs.declared.Changed.{Changed}
 use Rattle.slot_answers.specs.declared.Changed.the-variants as C
 use Rattle.slot_answers.specs.declared.Inserted.{Inserted}
@@ -16,17 +11,6 @@ use Rattle.slot_answers.specs.declared.Told.the-variants as T
 use Rattle.slot_answers.specs.declared.Made.{Made}
 use Rattle.slot_answers.specs.declared.Made.the-variants as M
 use Rattle.slot_answers.specs.Answers.{saidChanged, saidInserted, saidTold, saidMade}
-
--- the number and the values of equal answers
-number-of : {a b : Answer} → a ≡ b → a .number ≡ b .number
-number-of e = ap (λ (x : Answer). x .number) e
-
-value-of : (k : ℕ) {a b : Answer} → a ≡ b → getD (a .values) k 0 ≡ getD (b .values) k 0
-value-of k e = ap (λ (x : Answer). getD (x .values) k 0) e
-
--- an accepted answer is no refusal
-differ : (why : Refusal) → 0 ≡ numberOf why → ⊥
-differ why e = omega (arith, number-pos why)
 
 pub changed-one : (x y : Changed) → saidChanged x ≡ saidChanged y → x ≡ y
 changed-one (C.Word a) (C.Word b) e = ap C.Word (value-of 0 e)

@@ -10,6 +10,7 @@ use Rattle.bank.specs.History.{Done, releasedBy}
 use Rattle.nibbles.specs.Words.{bankOf}
 use Rattle.slot_answers.specs.Words.{changed}
 
+-- these slots where the call was accepted, else none
 abbrev pub ifAccepted : Bool → List ℕ → List ℕ
 ifAccepted true slots = slots
 ifAccepted false slots = []

@@ -116,6 +116,19 @@ way-marked m K (way.stored l v ks holder lf p c q E w e) t = w .marked
 way-marked m K (conflict l v ks holder lf p c q E w n) t = tt
 way-marked m K (below l v ks holder lf p x o q E rest) t = way-marked m K rest t
 
+-- and has the key
+abbrev pub HasKey : Memory → List ℕ → Met → Type 0
+HasKey m K (Stored leaf position cell) = keyAt (m .cells) (m .bytes) cell ≡ K
+HasKey m K (Conflict leaf position cell links) = Unit {0}
+HasKey m K (Missing holder root links) = Unit {0}
+
+pub way-key : (m : Memory) (K : List ℕ) {l : ℕ} {v : Layered l} {ks : List ℕ} {holder : ℕ} {o : Met} → Way m K l v ks holder o
+    → T (isStored o) → HasKey m K o
+way-key m K (missing l v ks holder q) t = tt
+way-key m K (way.stored l v ks holder lf p c q E w e) t = e
+way-key m K (conflict l v ks holder lf p c q E w n) t = tt
+way-key m K (below l v ks holder lf p x o q E rest) t = way-key m K rest t
+
 -- ---- find, and the listing
 
 module _ (m : Memory) (v : Layers) (t : IsTree m v) (bytes : Bytes (m .bytes)) where

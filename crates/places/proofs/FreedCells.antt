@@ -24,7 +24,7 @@ use Rattle.views.specs.Views.{tabled, cellView, cellSound}
 use Rattle.order.proofs.Bytes.{bytes-drop, bytes-take, bytes-append}
 use Rattle.views.proofs.Nodes.{set-tabled, free-cell-view, cell-cases, free-mark, free-cell-sound, right-cell-sound, right-mark}
 
-zeros-zero : (n : ℕ) → T (allZero (zeros n))
+pub zeros-zero : (n : ℕ) → T (allZero (zeros n))
 unfolding every
 zeros-zero zero = tt
 zeros-zero (suc n) = zeros-zero n

@@ -35,6 +35,7 @@ use Rattle.trees.proofs.Paths.{raisedIkey-lt, bytes-rest, layerKey-at, down-len
 use Rattle.trees.proofs.EntriesPut.{below-one-more, both-longer}
 use Rattle.order.specs.Map.{lookup}
 use Rattle.order.specs.Options.{mapOption, worth}
+use Rattle.order.proofs.Lookup.{same-some}
 use Rattle.order.proofs.Changes.{worth-le, lookup-map, lookup-all}
 use Rattle.order.specs.Lists.{total}
 use Rattle.views.specs.Views.{nodesView}
@@ -151,7 +152,7 @@ module _ (m : Memory) (K : List ℕ) where
             → P (cond b (meetEntry go-on m K n lf p (getD es p leaves.none)) (Missing holder (layerRoot l v) n))
         go true f none q e = let z : _≡_ {A = ℕ} 0 1 = cc (ap (mapOption (pointerOf l)) q) in absurd (omega arith)
         go true f (some x) q e =
-            let there : (view (getD es p leaves.none)) .1 ≡ pointerOf l x = some-same (e ∙ ap (mapOption (pointerOf l)) q) in
+            let there : (view (getD es p leaves.none)) .1 ≡ pointerOf l x = same-some (e ∙ ap (mapOption (pointerOf l)) q) in
             present x lf p (ap (λ (k : IkeyClass). lookup layerOrder k (v .1)) key-is ∙ q)
             (record {
               leaf-is = refl;
@@ -160,9 +161,6 @@ module _ (m : Memory) (K : List ℕ) where
               keyed = place-there i c es (looks m whole few l v i H (λ j. omega (arith, u j)) .fine) (f refl);
               there = there;
             })
-          where
-            some-same : {A : Type 0} {a b : A} → some a ≡ some b → a ≡ b
-            some-same e = cc
         go false f none q e = absent (ap (λ (k : IkeyClass). lookup layerOrder k (v .1)) key-is ∙ q)
         go false f (some x) q e = let z : _≡_ {A = ℕ} 0 1 = cc (ap (mapOption (pointerOf l)) q) in absurd (omega arith)
 

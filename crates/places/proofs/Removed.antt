@@ -1,5 +1,5 @@
 -- Remove: memory without the entry at the key's place is a tree, and lists what it did without the key. Assumes nothing.
-use mathlib.Core.Path.{_≡_, sym, ap, ap₂, _∙_, subst}
+use mathlib.Core.Path.{_≡_, refl, sym, ap, ap₂, _∙_, subst}
 use mathlib.Core.Bool.{true}
 use mathlib.Core.List.{List, []}
 use mathlib.Core.Option.{none}
@@ -11,7 +11,8 @@ use Rattle.bank.proofs.Tests.{holds}
 use Rattle.order.specs.Bytes.{Bytes, bytewise}
 use Rattle.order.specs.Map.{delete, alter}
 use Rattle.arena.specs.Layout as layout
-use Rattle.arena.specs.Layout.{freedCell, freedKey}
+use Rattle.arena.specs.Layout.{markAt, keyAt, freedCell, freedKey}
+use Rattle.arena.specs.Free.{freeNodes}
 use Rattle.arena.specs.Memory.{Memory, memory, nodeCount, cellCount}
 use Rattle.forest.specs.Nodes.{entriesAt, leafRight}
 use Rattle.forest.specs.IsTree.{Layers, IsTree, listing}
@@ -21,18 +22,19 @@ use Rattle.model.specs.Calls as calls
 use Rattle.model.specs.declared.Met.{Met}
 use Rattle.model.specs.declared.Met.the-variants.{Stored, Conflict, Missing}
 use Rattle.trees.specs.Nodes.{leaf, NodeList}
+use Rattle.trees.specs.FreeNumbers.{freeNumbers}
 use Rattle.trees.specs.Cut.{cutPlace}
 use Rattle.trees.specs.Cells.{CellList, cellAt}
 use Rattle.trees.specs.Layers.{Pointer, Layered, layerReaches}
 use Rattle.trees.specs.LayersFound.{layersFind, layersRemove}
 use Rattle.trees.specs.WholeTree.{layerListing, IsWholeTree}
-use Rattle.trees.proofs.FreeNumbers.{in-use-inside}
+use Rattle.trees.proofs.FreeNumbers.{free-kept, in-use-inside}
 use Rattle.trees.proofs.Cut.{cut-exists}
 use Rattle.trees.proofs.Paths.{raisedIkey-lt}
 use Rattle.trees.proofs.WholeTree.{onesBelow-le, below-no-links}
 use Rattle.trees.proofs.WholeCalls.{whole-remove}
 use Rattle.views.specs.Views.{tabled, nodeView, nodesView, cellView, cellsView, layerView, Sound}
-use Rattle.views.proofs.Nodes.{nodesIn, cellsIn, nodes-long}
+use Rattle.views.proofs.Nodes.{nodesIn, cellsIn, nodes-long, frees-view}
 use Rattle.views.proofs.LayerViews.{rightEdge}
 use Rattle.views.proofs.Whole.{ViewIsTree, sound-of, to-trees, listing-view, from-trees, lengths}
 use Rattle.growth.proofs.Memory.{Nodes, Wrote, leaf-of}
@@ -41,7 +43,7 @@ use Rattle.places.proofs.Entries.{viewAll}
 use Rattle.places.proofs.Meets.{Way}
 use Rattle.places.proofs.Looks.{seen-node}
 use Rattle.places.proofs.Seen.{seen-key, place-way, marked-inside}
-use Rattle.places.proofs.Found.{cellOf, way-found, way-marked}
+use Rattle.places.proofs.Found.{cellOf, way-found, way-marked, way-key}
 use Rattle.places.proofs.Taken.{withoutAt, entry-taken}
 use Rattle.places.proofs.FreedCells.{freed-cells-length, freed-bytes-length, freed-sound, freed-view, freed-bytes}
 use Rattle.places.proofs.LeafLess.{MayGo, leftAt, way-removed}
@@ -146,6 +148,11 @@ module _ (m : Memory) (v : Layers) (t : IsTree m v) (bytes : Bytes (m .bytes)) (
       ap (λ (r : ℕ). layersFind (cellAt (cellsView m)) K 31 [] r (nodesView m)) (sym (seen .rooted))
       ∙ way-found m K (cellAt (cellsView m)) (seen-key m s) W (below-no-links K b) (seen .holds) (seen .good) once
 
+  may-go : (lf p c : ℕ) → Way m K 31 (layerView 31 v) [] 0 (Stored lf p c) → MayGo m lf p
+  may-go lf p c W =
+      way-removed m K (lengths m (s .lent) .nodes-whole) (lengths m (s .lent) .n-high) 9 cutPlace
+      (cellAt (cellsView m)) W tt (below-no-links K b) (seen .holds) (seen .good) once .1
+
   less : (lf p c : ℕ) → Way m K 31 (layerView 31 v) [] 0 (Stored lf p c) → Less (calls.without m (Stored lf p c))
   less lf p c W =
       let found = found-cell (Stored lf p c) W in
@@ -180,5 +187,33 @@ module _ (m : Memory) (v : Layers) (t : IsTree m v) (bytes : Bytes (m .bytes)) (
     where
       go : (o : Met) → Way m K 31 (layerView 31 v) [] 0 o → isStored o ≡ true → Less (calls.without m o)
       go (Stored lf p c) W e = less lf p c W
+      go (Conflict lf p c links) W e = let z : _≡_ {A = ℕ} 0 1 = cc in absurd (omega arith)
+      go (Missing holder root links) W e = let z : _≡_ {A = ℕ} 0 1 = cc in absurd (omega arith)
+
+  -- ---- what it frees
+
+  -- the entry's cell, which has the key, and no node: memory after it has the cell zeroed, every other cell as it was, and the same nodes free
+  abbrev pub FreesCell : Memory → ℕ → Type 0
+  FreesCell after c =
+      (keyAt (m .cells) (m .bytes) c ≡ K) × (1 ≤ markAt (m .cells) c)
+      × (after .cells ≡ freedCell (m .cells) c) × (after .bytes ≡ freedKey (m .bytes) c)
+      × (freeNodes (after .nodes) (nodesIn m) ≡ freeNodes (m .nodes) (nodesIn m))
+
+  same-nodes-free : (lf p c : ℕ) → MayGo m lf p → c < cellsIn m
+      → freeNodes (entryTaken (m .nodes) lf p) (nodesIn m) ≡ freeNodes (m .nodes) (nodesIn m)
+  same-nodes-free lf p c L inside =
+      ap (freeNodes (entryTaken (m .nodes) lf p)) (sym (as-many-nodes m s lf p c inside L))
+      ∙ sym (frees-view (after m s lf p c inside L) (after-sound m s lf p c inside L))
+      ∙ ap (freeNumbers 0) (after-nodes m s lf p c inside L)
+      ∙ free-kept (nodesView m) 0 lf (leaf (viewAll (withoutAt p (entriesAt (m .nodes) lf)))) (rw (L .is-leaf) tt) tt
+      ∙ frees-view m s
+
+  pub removed-frees : stored m K ≡ true → (c : ℕ) × FreesCell (calls.without m (place m K)) c
+  removed-frees = go (place m K) (place-way m s w seen K b)
+    where
+      go : (o : Met) → Way m K 31 (layerView 31 v) [] 0 o → isStored o ≡ true → (c : ℕ) × FreesCell (calls.without m o) c
+      go (Stored lf p c) W e =
+          let marked = way-marked m K W tt in
+          (c, (way-key m K W tt, marked, refl, refl, same-nodes-free lf p c (may-go lf p c W) (marked-inside m s c marked)))
       go (Conflict lf p c links) W e = let z : _≡_ {A = ℕ} 0 1 = cc in absurd (omega arith)
       go (Missing holder root links) W e = let z : _≡_ {A = ℕ} 0 1 = cc in absurd (omega arith)

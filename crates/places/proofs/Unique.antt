@@ -8,6 +8,7 @@ use native.Mathlib.Omega.{arith}
 use lib.ListN.{length}
 use Rattle.order.specs.Layer.{ikeyAt, classAt}
 use Rattle.leaf.specs.Search.{placeEqual}
+use Rattle.order.proofs.Lookup.{same-some}
 use Rattle.arena.specs.Layout.{keyAt}
 use Rattle.arena.specs.Memory.{Memory}
 use Rattle.forest.specs.Nodes.{entriesAt}
@@ -20,9 +21,6 @@ use Rattle.places.proofs.Meets.{Entered, Way, missing, stored, conflict
 
 none-not-some : {A B : Type 0} {x : A} → none ≡ some x → B
 none-not-some e = let z : _≡_ {A = ℕ} 0 1 = cc in absurd (omega arith)
-
-some-same : {A : Type 0} {x y : A} → some x ≡ some y → x ≡ y
-some-same e = cc
 
 one-same : (l c d : ℕ) → layeredCell l c ≡ layeredCell l d → c ≡ d
 one-same zero c d e = e
@@ -52,27 +50,27 @@ module _ (m : Memory) (K : List ℕ) where
   way-one (missing _ v ks holder q) (below l _ _ _ lf p x o r E rest) = none-not-some (sym q ∙ r)
   way-one (stored l v ks holder lf p c q E w e) (missing _ _ _ _ r) = none-not-some (sym r ∙ q)
   way-one (stored l v ks holder lf p c q E w e) (stored _ _ _ _ lf′ p′ c′ r F x f) =
-      let cells = one-same l c c′ (some-same (sym q ∙ r)) in
+      let cells = one-same l c c′ (same-some (sym q ∙ r)) in
       let leaves = entered-leaf E F in
       let places = entered-place E F in
       λ i. Stored (leaves i) (places i) (cells i)
   way-one (stored l v ks holder lf p c q E w e) (conflict _ _ _ _ lf′ p′ c′ r F x n) =
-      absurd (n (ap (keyAt (m .cells) (m .bytes)) (sym (one-same l c c′ (some-same (sym q ∙ r)))) ∙ e))
-  way-one (stored _ v ks holder lf p c q E w e) (below l _ _ _ lf′ p′ x o r F rest) = cell-not-link (some-same (sym q ∙ r))
+      absurd (n (ap (keyAt (m .cells) (m .bytes)) (sym (one-same l c c′ (same-some (sym q ∙ r)))) ∙ e))
+  way-one (stored _ v ks holder lf p c q E w e) (below l _ _ _ lf′ p′ x o r F rest) = cell-not-link (same-some (sym q ∙ r))
   way-one (conflict l v ks holder lf p c q E w n) (missing _ _ _ _ r) = none-not-some (sym r ∙ q)
   way-one (conflict l v ks holder lf p c q E w n) (stored _ _ _ _ lf′ p′ c′ r F x e) =
-      absurd (n (ap (keyAt (m .cells) (m .bytes)) (one-same l c c′ (some-same (sym q ∙ r))) ∙ e))
+      absurd (n (ap (keyAt (m .cells) (m .bytes)) (one-same l c c′ (same-some (sym q ∙ r))) ∙ e))
   way-one (conflict l v ks holder lf p c q E w n) (conflict _ _ _ _ lf′ p′ c′ r F x n′) =
-      let cells = one-same l c c′ (some-same (sym q ∙ r)) in
+      let cells = one-same l c c′ (same-some (sym q ∙ r)) in
       let leaves = entered-leaf E F in
       let places = entered-place E F in
       λ i. Conflict (leaves i) (places i) (cells i) (length ks)
-  way-one (conflict _ v ks holder lf p c q E w n) (below l _ _ _ lf′ p′ x o r F rest) = cell-not-link (some-same (sym q ∙ r))
+  way-one (conflict _ v ks holder lf p c q E w n) (below l _ _ _ lf′ p′ x o r F rest) = cell-not-link (same-some (sym q ∙ r))
   way-one (below l v ks holder lf p x o q E rest) (missing _ _ _ _ r) = none-not-some (sym r ∙ q)
-  way-one (below l v ks holder lf p x o q E rest) (stored _ _ _ _ lf′ p′ c r F w e) = cell-not-link (some-same (sym r ∙ q))
-  way-one (below l v ks holder lf p x o q E rest) (conflict _ _ _ _ lf′ p′ c r F w n) = cell-not-link (some-same (sym r ∙ q))
+  way-one (below l v ks holder lf p x o q E rest) (stored _ _ _ _ lf′ p′ c r F w e) = cell-not-link (same-some (sym r ∙ q))
+  way-one (below l v ks holder lf p x o q E rest) (conflict _ _ _ _ lf′ p′ c r F w n) = cell-not-link (same-some (sym r ∙ q))
   way-one (below l v ks holder lf p x o q E rest) (below _ _ _ _ lf′ p′ y o′ r F rest′) =
-      let layers : y ≡ x = link-same (some-same (sym r ∙ q)) in
+      let layers : y ≡ x = link-same (same-some (sym r ∙ q)) in
       let words : numberWord (m .nodes) lf′ p′ ≡ numberWord (m .nodes) lf p =
       ap₂ (numberWord (m .nodes)) (entered-leaf F E) (entered-place F E) in
       way-one rest (subst (λ (n : ℕ). Way m K l x (pathDown K ks) n o′) words

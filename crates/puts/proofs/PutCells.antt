@@ -4,7 +4,7 @@ use mathlib.Core.Bool.{cond}
 use mathlib.Core.Logic.{⊎-elim, inl, inr}
 use mathlib.Core.List.{List, [], _∷_, _++_, append-nil}
 use mathlib.Core.Option.{none, some}
-use Prim.Native.Nat.{ℕ, zero, suc, _+_, _*_, _-_, _≤_, _<_}
+use Prim.Native.Nat.{ℕ, _+_, _*_, _-_, _≤_, _<_}
 use native.Mathlib.Omega.{arith}
 use native.Mathlib.Decide.{ℕ-discrete}
 use lib.Dec.{T, eqb, leb, le→leb}
@@ -12,22 +12,15 @@ use lib.ListN.{length, set, length-replicate}
 use Rattle.bank.proofs.Tests.{and-both}
 use Rattle.order.specs.Bytes.{Bytes}
 use Rattle.order.proofs.Bytes.{bytes-drop, bytes-take, bytes-append}
-use Rattle.leaf.specs.Lists.{every}
 use Rattle.arena.specs.Parts.{part, putPart, zeros}
 use Rattle.arena.specs.Layout.{cellStart, keyStart, markAt, frameAt, keyAt, keyBytes, putCell, putKey}
 use Rattle.arena.proofs.Words.{part-kept, part-part, put-out, middle}
 use Rattle.arena.proofs.Cells.{cells-apart, keys-apart, key-length, cell-kept, mark-kept, cells-length, mark-stored, frame-stored}
 use Rattle.arena.proofs.Cells.{key-stored, bytes-stored, bytes-kept, bytes-length}
-use Rattle.forest.specs.Nodes.{allZero}
 use Rattle.forest.specs.Cells.{cellRight, cellFree}
 use Rattle.views.specs.Views.{tabled, cellView, cellSound}
 use Rattle.views.proofs.Nodes.{set-tabled, used-cell-view, cell-cases, free-mark, free-cell-sound, right-cell-sound, right-mark}
-use Rattle.places.proofs.FreedCells.{bytes-zeros}
-
-zeros-zero : (n : ℕ) → T (allZero (zeros n))
-unfolding every
-zeros-zero zero = tt
-zeros-zero (suc n) = zeros-zero n
+use Rattle.places.proofs.FreedCells.{zeros-zero, bytes-zeros}
 
 module _ (cells bytes : List ℕ) (C : ℕ) (long : length cells ≡ C * 2) (wide : length bytes ≡ C * 256) (c : ℕ) (h : c < C)
     (key : List ℕ) (short : length key ≤ 256) (frame : ℕ) where

@@ -49,16 +49,11 @@ use Rattle.places.proofs.Meets.{Way}
 use Rattle.places.proofs.Seen.{seen-key, place-way}
 use Rattle.places.proofs.Found.{isSome, stored-lookup}
 use Rattle.puts.proofs.PutCells.{put-cells-length, put-bytes-length, put-sound, put-view, put-bytes}
-use Rattle.puts.proofs.Layers.{Known, way-need}
-use Rattle.puts.proofs.Ways.{Put, way-put}
+use Rattle.puts.proofs.Along as A
 
 head-of : (fs : List ℕ) → 1 ≤ length fs → fs ≡ getD fs 0 0 ∷ drop 1 fs
 head-of [] h = absurd (omega arith)
 head-of (f ∷ fs) h = refl
-
-none-of : {A : Type 0} (o : Option A) → isSome o ≡ false → o ≡ none
-none-of none e = refl
-none-of (some x) e = let z : _≡_ {A = ℕ} 0 1 = cc in absurd (omega arith)
 
 -- ---- memory with other nodes, and a cell taken
 
@@ -127,14 +122,11 @@ module _ (m : Memory) (v : Layers) (t : IsTree m v) (bytes : Bytes (m .bytes)) (
   abbrev M : NodeList Pointer
   M = nodesView m
 
-  s : Sound m
+  abbrev s : Sound m
   s = sound-of m v t
 
-  seen : ViewIsTree m w
+  abbrev seen : ViewIsTree m w
   seen = to-trees m v t bytes
-
-  once : (j : ℕ) → layerReaches 31 w j + timesIn (freeNumbers 0 M) j ≤ 1
-  once j = omega (arith, seen .nodes j, onesBelow-le (nodesIn m) j)
 
   -- ---- the cell
 
@@ -183,57 +175,20 @@ module _ (m : Memory) (v : Layers) (t : IsTree m v) (bytes : Bytes (m .bytes)) (
       cell-other (cellsView m) c j (some (K, frame)) (oneAt-other c j
       (omega (arith, seen .cells j, ap (λ (l : List ℕ). timesIn l j) free-cells, onesBelow-le (cellsIn m) j)))
 
-  -- ---- the key is new
-
-  absent-listed : lookup bytewise K (layerListing 31 (cellsView m) w) ≡ none
-  absent-listed =
-      ap (lookup bytewise K) (sym (listing-view m v t))
-      ∙ none-of (lookup bytewise K (listing m v)) (sym (stored-lookup m v t bytes K b) ∙ absent)
-
-  new : All (λ e. K ≢ e .0) (layerListing 31 (cellsView m) w)
-  new = lookup-new bytewise-order K (whole-sorted 15 9 cutPlace rightEdge 31 (nodesIn m) (cellsIn m) M (cellsView m)
-      (layout.rootOf (m .nodes)) w seen) absent-listed
-
-  known : Known m s at c 31 w []
-  known = record {
-    fits = subst (λ (x : List ℕ × ℕ). FitsLayers at 31 [] (x .0)) (sym cell-is) (fits-first-layer at 31 K b short);
-    held = seen .holds;
-    good = (seen .good .0, right-layer-same (cellAt (cellsView m)) at 31 [] used-same (seen .good .1));
-    new = subst (λ (xs : List (List ℕ × ℕ)). All (λ e. cellKey at c ≢ e .0) xs)
-        (sym (layer-listing-same (cellAt (cellsView m)) at 31 (bareEntries 31 w) used-same))
-        (subst (λ (x : List ℕ × ℕ). All (λ e. x .0 ≢ e .0) (layerListing 31 (cellsView m) w)) (sym cell-is) new);
-    once = once;
-    deep = refl;
-  }
-
   -- ---- the nodes
 
   abbrev r : ℕ
   r = layout.rootOf (m .nodes)
 
-  -- of the key as the cell has it, and then of the key
-  abbrev Along : List ℕ → Type 0
-  Along J =
-      (neededAt m J (place m K) ≡ layersNeed 15 at J 31 [] r M)
-      × (layersNeed 15 at J 31 [] r M ≤ length (freeNumbers 0 M)
-      → Put m s at c 31 w 0 (nodesWith m J c (place m K)) (layersPut 15 9 cutPlace at J c 31 [] r M))
-
-  along : Along K
-  along =
-      let W = subst (λ (J : List ℕ). Way m J 31 w [] 0 (place m K)) (sym key-is) (place-way m s w seen K b) in
-      subst Along key-is
-      (subst (λ (r : ℕ). (neededAt m (cellKey at c) (place m K) ≡ layersNeed 15 at (cellKey at c) 31 [] r M)
-      × (layersNeed 15 at (cellKey at c) 31 [] r M ≤ length (freeNumbers 0 M)
-      → Put m s at c 31 w 0 (nodesWith m (cellKey at c) c (place m K)) (layersPut 15 9 cutPlace at (cellKey at c) c 31 [] r M)))
-      (seen .rooted)
-      (way-need m s at c agree W absent known, way-put m s at c agree W absent known))
+  along : A.Along m v t bytes K b short absent at c key-is used-same agree K r
+  along = A.along m v t bytes K b short absent at c key-is used-same agree
 
   needs : layersNeed 15 (cellAt (cellsView m)) K 31 [] r M ≡ needed m K
   needs =
       subst (λ (r : ℕ). layersNeed 15 (cellAt (cellsView m)) K 31 [] r M ≡ layersNeed 15 at K 31 [] r M) (seen .rooted)
       (sym (layersNeed-same 15 9 cutPlace rightEdge (cellAt (cellsView m)) at K (λ J y. raisedIkey-lt y) 31 [] M w (below-no-links K b)
       (seen .holds) (seen .good)
-      (λ j. omega (arith, once j)) used-same))
+      (λ j. omega (arith, A.once m v t bytes K b short absent j)) used-same))
       ∙ sym (along .0)
 
   enough : needed m K ≤ length (freeNumbers 0 M)
@@ -262,7 +217,8 @@ module _ (m : Memory) (v : Layers) (t : IsTree m v) (bytes : Bytes (m .bytes)) (
   putted =
       whole-put 15 9 cutPlace rightEdge 31 (nodesIn m) (cellsIn m) (cut-exists 9) (omega arith) (omega arith) (omega arith)
       (λ J y. raisedIkey-lt y)
-      M (cellsView m) r w seen K frame b short new c others free-cells (subst (λ (n : ℕ). n ≤ length (freeNumbers 0 M)) (sym needs) enough)
+      M (cellsView m) r w seen K frame b short (A.new m v t bytes K b short absent) c others free-cells
+      (subst (λ (n : ℕ). n ≤ length (freeNumbers 0 M)) (sym needs) enough)
 
   -- a tree that lists what memory does, with the key and its frame number
   abbrev pub More : Memory → Type 0

@@ -76,14 +76,14 @@ fn moved(r: Moved) -> Said {
     }
 }
 
-fn count(r: Count) -> Said {
+pub(crate) fn count(r: Count) -> Said {
     match r {
         Count::Is(n) => value(n as u64),
         Count::Refused(why, k) => refused(why, k),
     }
 }
 
-fn word(r: Word) -> Said {
+pub(crate) fn word(r: Word) -> Said {
     match r {
         Word::Is(w) => value(w),
         Word::Refused(why, k) => refused(why, k),
@@ -94,14 +94,14 @@ fn flag(b: bool) -> u64 {
     if b { 1 } else { 0 }
 }
 
-fn told(r: Told) -> Said {
+pub(crate) fn told(r: Told) -> Said {
     match r {
         Told::Is(b) => value(flag(b)),
         Told::Refused(why, k) => refused(why, k),
     }
 }
 
-fn compared(r: Compared) -> Said {
+pub(crate) fn compared(r: Compared) -> Said {
     match r {
         Compared::Is(o) => value(order(o)),
         Compared::Refused(why, k) => refused(why, k),
@@ -115,16 +115,34 @@ fn whole(r: Whole) -> Said {
     }
 }
 
-// A part, by its length and a sum over its bytes; or the refusal of its key.
-fn part(r: Judged, s: &[u8]) -> Said {
+// Whether a key fits.
+pub(crate) fn judged(r: Judged) -> Said {
     match r {
-        Judged::Fits => Said {
-            number: 0,
-            a: s.len() as u64,
-            b: sum(s),
-            c: 0,
-        },
+        Judged::Fits => value(0),
         Judged::Refused(why, k) => refused(why, k),
+    }
+}
+
+// A refusal's number or 0, and the numbers of a key.
+pub(crate) fn numbers(number: u64, ikey: u64, shift_count: usize, suffix_start: usize) -> Said {
+    Said {
+        number,
+        a: ikey,
+        b: shift_count as u64,
+        c: suffix_start as u64,
+    }
+}
+
+// A part, by its length and a sum over its bytes; or the number of its refusal.
+pub(crate) fn part(number: u64, s: &[u8]) -> Said {
+    if number != 0 {
+        return numbers(number, 0, 0, 0);
+    }
+    Said {
+        number: 0,
+        a: s.len() as u64,
+        b: sum(s),
+        c: 0,
     }
 }
 
@@ -155,7 +173,7 @@ fn none() -> Layer {
 }
 
 // The key of a at a layer. A key that is too long has no numbers: zeros.
-fn reach(a: &[u8], layer: u8) -> Layer {
+pub(crate) fn reach(a: &[u8], layer: u8) -> Layer {
     let Made::At(k) = key::new(a) else {
         return none();
     };
@@ -198,14 +216,20 @@ fn suffixed(a: &[u8], k: Layer) -> Said {
     let i = k.ikey;
     let s = k.shift_count;
     let p = k.suffix_start;
-    part(key::judge(a, i, s, p), key::suffix(a, i, s, p))
+    part(
+        key::inside::refusal_of(a, i, s, p),
+        key::inside::suffix(a, i, s, p),
+    )
 }
 
 fn data(a: &[u8], k: Layer) -> Said {
     let i = k.ikey;
     let s = k.shift_count;
     let p = k.suffix_start;
-    part(key::judge(a, i, s, p), key::full_data(a, i, s, p))
+    part(
+        key::inside::refusal_of(a, i, s, p),
+        key::inside::full_data(a, i, s, p),
+    )
 }
 
 fn on_key(op: u8, a: &[u8], b: &[u8], k: Layer, x: u64, y: u64) -> Said {

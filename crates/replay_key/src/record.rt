@@ -3,6 +3,8 @@ ghost use Prim.Native.Nat.{_+_, _^_, _<_};
 ghost use Rattle.io.specs.Counts.{Counts};
 use crate::answers::Said;
 use crate::answers::answer;
+use crate::answers::reach;
+use crate::asked;
 
 // The byte at i, or 0.
 fn byte(s: &[u8], i: usize) -> u8 {
@@ -87,21 +89,35 @@ fn build(rec: &[u8], from: usize, out: &mut [u8]) -> usize
     n
 }
 
-// The answer of the recorded call is the recorded one.
+// The answer of the recorded call is the recorded one, and so is that of the same call on a key that holds its bytes. Such a key is refused
+// by `judge` where a question is.
+fn agrees_on(rec: &[u8], a: &[u8], b: &[u8]) -> bool {
+    let op = byte(rec, 0);
+    let layer = byte(rec, 15);
+    let x = eight(rec, 16);
+    let y = eight(rec, 24);
+    if !same(rec, answer(op, a, b, layer, x, y)) {
+        return false;
+    }
+    if !asked::is_held(op) {
+        return true;
+    }
+    let k = reach(a, layer);
+    if op < 11 {
+        if asked::judgement(a, k) != wide(byte(rec, 32)) {
+            return false;
+        }
+    }
+    same(rec, asked::answer(op, a, b, k, x, y))
+}
+
+// The two keys of a record are built, and the call is made.
 pub(crate) fn agrees(rec: &[u8]) -> bool {
     let mut a = [0u8; 300];
     let mut b = [0u8; 300];
     let m = build(rec, 1, &mut a);
     let n = build(rec, 8, &mut b);
-    let said = answer(
-        byte(rec, 0),
-        &a[..m],
-        &b[..n],
-        byte(rec, 15),
-        eight(rec, 16),
-        eight(rec, 24),
-    );
-    same(rec, said)
+    agrees_on(rec, &a[..m], &b[..n])
 }
 
 fn same(rec: &[u8], said: Said) -> bool {

@@ -1,6 +1,7 @@
 // One recorded search: the numbers of the answer, the word, the key, the entries and the cells, at fixed places of a line.
 // oracle/leaf/README.md says which.
 ghost use Prim.Native.Nat.{_<_};
+use crate::lent;
 use leaf::Entry;
 use leaf::Searched;
 
@@ -25,7 +26,13 @@ fn told(searched: Searched) -> Said {
         Searched::Conflict(slot) => accepted(1, slot),
         Searched::Layer(slot) => accepted(2, slot),
         Searched::NotFound(position) => accepted(3, position),
-        Searched::Refused { why, word } => Said {
+        Searched::Refused {
+            why,
+            word,
+            ikey: _,
+            shift_count: _,
+            suffix_start: _,
+        } => Said {
             number: refusal::number(why),
             outcome: 0,
             value: word,
@@ -97,9 +104,22 @@ fn key_of(text: &[u8]) -> [u8; 300] {
     key
 }
 
-// The answer to the search of the line, with these words, bytes and key lent.
+// The answer to the search of the line, with these words, bytes and key lent: of entries by value, and of the same entries lent.
 fn ask(text: &[u8], cells: &[u64], bytes: &[u8], key: &[u8]) -> Said {
     told(leaf::search(
+        hex::sixteen(text, 25),
+        entries_of(text),
+        cells,
+        bytes,
+        key,
+        hex::sixteen(text, 42),
+        hex::sixteen(text, 59) as usize,
+        hex::sixteen(text, 76) as usize,
+    ))
+}
+
+fn ask_lent(text: &[u8], cells: &[u64], bytes: &[u8], key: &[u8]) -> Said {
+    told(lent::search(
         hex::sixteen(text, 25),
         entries_of(text),
         cells,
@@ -121,6 +141,14 @@ fn is_recorded(text: &[u8], answer: Said) -> bool {
     answer.value == hex::sixteen(text, 8)
 }
 
+// Both searches say what the line says.
+fn agree_both(text: &[u8], cells: &[u64], bytes: &[u8], key: &[u8]) -> bool {
+    if !is_recorded(text, ask(text, cells, bytes, key)) {
+        return false;
+    }
+    is_recorded(text, ask_lent(text, cells, bytes, key))
+}
+
 // Whether the port says what the line says, with as many words and bytes lent as the line says.
 fn agrees_on(text: &[u8], cells: &[u64], bytes: &[u8], key: &[u8]) -> bool {
     let words = hex::four(text, 93) as usize;
@@ -135,10 +163,7 @@ fn agrees_on(text: &[u8], cells: &[u64], bytes: &[u8], key: &[u8]) -> bool {
     if key.len() < length {
         return false;
     }
-    is_recorded(
-        text,
-        ask(text, &cells[0..words], &bytes[0..room], &key[0..length]),
-    )
+    agree_both(text, &cells[0..words], &bytes[0..room], &key[0..length])
 }
 
 // Whether the port says to the recorded search what the line says.

@@ -1,5 +1,6 @@
-// Replays the recorded answers on standard input through the library `leaf`: prints each line that differs, and at
+// Replays the recorded answers on standard input through the libraries `leaf` and `lent_leaf`: prints each line that differs, and at
 // the end how many answers there were and how many differ. oracle/leaf/README.md says how the list was made.
+mod lent;
 mod line;
 
 // Replays every line. No list is so long that the count of answers ends it.

@@ -1,15 +1,14 @@
 -- Down a layer: a law for each way in which a step returns. Assumes nothing.
-use Prim.Native.Nat.{ℕ, zero, suc, _+_, _*_, _-_, _%_, _≤_, _<_}
+use Prim.Native.Nat.{ℕ, suc, _+_, _*_, _-_, _%_, _≤_, _<_}
 use mathlib.Core.Path.{_≡_, refl, sym, ap, _∙_}
-use mathlib.Core.Bool.{Bool, true, false, cond}
+use mathlib.Core.Bool.{Bool, true, false}
 use mathlib.Core.List.{List, [], _∷_, _++_}
 use native.Mathlib.Numerals.{add-one}
 use native.Mathlib.Omega.{arith}
-use lib.Dec.{leb, eqb, isEq}
+use lib.Dec.{leb, isEq}
 use lib.ListN.{length, getD, drop, length-drop, drop-of-length-le, List·getD-eq-default}
 use lib.Seq.{take-suc, take-all, take-nil, getD-drop}
 use borrow.Author.Count.{below-more}
-use borrow.Author.Needs.{needs}
 use borrow.Author.Tests.{le-leb, lt-leb}
 use Rattle.bank.specs.Bank.{slotAt}
 use Rattle.order.specs.Layer.{ikeyAt, classOf, classAt}
@@ -22,10 +21,11 @@ use Rattle.leaf.specs.Leaf.{none, slotsOf, against}
 use Rattle.leaf.specs.Search.{placeEqual}
 use Rattle.leaf.proofs.Lists.{first-at, first-none}
 use Rattle.arena.specs.Parts.{part}
-use Rattle.arena.specs.Layout.{nodeStart, wordAt, kindAt}
+use Rattle.arena.specs.Layout.{nodeStart, wordAt}
 use Rattle.arena.proofs.Words.{part-length, part-at}
 use Rattle.forest.specs.Nodes.{entryAt, entriesAt, ikeysAt, childrenAt}
 use Rattle.forest.specs.Walk.{heightAt}
+use Rattle.forest.proofs.Heights.{height-most}
 use Rattle.model.specs.Down.{childFor, leafFor, leafIn}
 use Rattle.seek.specs.Places.{placeAmong}
 use Rattle.seek.proofs.InUse.{entries-length, entry-here}
@@ -131,18 +131,18 @@ module _ (ikey len : ℕ) (e : Entry) (r : Ordered) (o : orderOf r ≡ against i
   pub same-greater : r ≡ Greater → false ≡ isEq (against ikey (classOf len) e)
   same-greater q = rw (← o, q)
 
-module _ (nodes : List ℕ) (n ikey len : ℕ) {word : ℕ} (w : word ≡ wordAt nodes n 1) (i : ℕ)
+module _ (nodes : List ℕ) (n ikey len : ℕ) {word size : ℕ} (w : word ≡ wordAt nodes n 1) (z : size ≡ word % 16) (i : ℕ)
     (f : (j : ℕ) → j < i → isEq (against ikey (classOf len) (getD (entriesAt nodes n) j none)) ≡ false) where
-  pub equal-none : word % 16 ≤ i → word % 16 ≡ placeEqual ikey (classOf len) (entriesAt nodes n)
+  pub equal-none : size ≤ i → size ≡ placeEqual ikey (classOf len) (entriesAt nodes n)
   equal-none l =
-      sym (entries-length nodes n word w)
+      z ∙ sym (entries-length nodes n word w)
       ∙ first-none (λ e. isEq (against ikey (classOf len) e)) none (entriesAt nodes n)
       (λ j h. f j (omega (arith, entries-length nodes n word w)))
 
-  module _ {slot : ℕ} {e : Entry} {r : Bool} (l : i < word % 16) (s : slot ≡ slotAt i (slotsOf word)) (d : e ≡ entryAt nodes n slot)
+  module _ {slot : ℕ} {e : Entry} {r : Bool} (l : i < size) (s : slot ≡ slotAt i (slotsOf word)) (d : e ≡ entryAt nodes n slot)
       (q : r ≡ isEq (against ikey (classOf len) e)) where
     same-here : isEq (against ikey (classOf len) (getD (entriesAt nodes n) i none)) ≡ r
-    same-here = ap (λ (x : Entry). isEq (against ikey (classOf len) x)) (entry-here nodes n word w i l s ∙ sym d) ∙ sym q
+    same-here = ap (λ (x : Entry). isEq (against ikey (classOf len) x)) (entry-here nodes n word w i (omega arith) s ∙ sym d) ∙ sym q
 
     pub equal-here : r ≡ true → i ≡ placeEqual ikey (classOf len) (entriesAt nodes n)
     equal-here t =
@@ -154,15 +154,6 @@ module _ (nodes : List ℕ) (n ikey len : ℕ) {word : ℕ} (w : word ≡ wordAt
     equal-next t = below-more _ i f (same-here ∙ t)
 
 -- ---- a layer's height, and the place of a key in it
-
-height-most : (nodes : List ℕ) (most n : ℕ) → heightAt nodes most n ≤ most
-unfolding heightAt
-height-most nodes zero n = omega arith
-height-most nodes (suc most) n = by (eqb (kindAt nodes n) 2) (height-most nodes most (getD (childrenAt nodes n) 0 0))
-  where
-    by : (b : Bool) {h : ℕ} → h ≤ most → cond b (suc h) 0 ≤ suc most
-    by true l = omega arith
-    by false l = omega arith
 
 pub height-small : (nodes : List ℕ) (root : ℕ) {h : ℕ} → h ≡ heightAt nodes 255 root → h ≤ 255
 height-small nodes root e = omega (arith, height-most nodes 255 root)

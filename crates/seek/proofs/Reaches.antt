@@ -5,7 +5,6 @@ use mathlib.Core.List.{List, [], _∷_, _++_, map}
 use native.Mathlib.Decide.{decLt}
 use native.Mathlib.Numerals.{add-one}
 use native.Mathlib.Omega.{arith}
-use lib.Dec.{eqb, ltb}
 use lib.ListN.{length, getD, drop, length-append, length-take, length-drop, drop-of-length-le, List·getD-append}
 use lib.Seq.{drop-cons, getD-append-add}
 use borrow.Author.Tests.{lt-ltb, le-ltb, eq-eqb, ne-eqb}
@@ -17,7 +16,7 @@ use Rattle.arena.specs.Parts.{part}
 use Rattle.arena.specs.Layout.{nodeStart, wordAt}
 use Rattle.arena.proofs.Words.{part-at}
 use Rattle.forest.specs.Nodes.{entryAt, entriesAt, childrenAt}
-use Rattle.forest.specs.Trees.{Key, Ref, cell, link, seenAs}
+use Rattle.forest.specs.Trees.{Key, Ref, seenAs}
 use Rattle.forest.specs.Walk.{heightAt}
 use Rattle.model.specs.declared.Reached.{Reached}
 use Rattle.model.specs.declared.Reached.the-variants.{Here, Beyond}
@@ -180,11 +179,12 @@ module _ (below : ℕ → List ℕ) (nodes : List ℕ) (n k : ℕ) where
   leaf-start = ap (reach k) (flattened-seen below (entriesAt nodes n))
 
 module _ (below : ℕ → List ℕ) (nodes : List ℕ) (n i left : ℕ) {total : Reached}
-    (inv : total ≡ reach left (flattened (cellsAt below) (drop i (entriesAt nodes n)))) {word : ℕ} (w : word ≡ wordAt nodes n 1) where
-  module _ (l : i < word % 16) {slot : ℕ} (s : slot ≡ slotAt i (slotsOf word)) {e : Entry}
+    (inv : total ≡ reach left (flattened (cellsAt below) (drop i (entriesAt nodes n)))) {word size : ℕ} (w : word ≡ wordAt nodes n 1)
+    (z : size ≡ word % 16) where
+  module _ (l : i < size) {slot : ℕ} (s : slot ≡ slotAt i (slotsOf word)) {e : Entry}
       (d : e ≡ entryAt nodes n slot) {r : Reached} (er : r ≡ reach left (cellsAt below e)) where
     said : r ≡ reach left (cellsAt below (getD (entriesAt nodes n) i none))
-    said = er ∙ ap (λ (x : Entry). reach left (cellsAt below x)) (d ∙ sym (entry-here nodes n word w i l s))
+    said = er ∙ ap (λ (x : Entry). reach left (cellsAt below x)) (d ∙ sym (entry-here nodes n word w i (omega arith) s))
 
     pub leaf-here : {c : ℕ} → r ≡ Here c → Here c ≡ total
     leaf-here q = walk-here (cellsAt below) (entriesAt nodes n) none i left inv (omega (arith, entries-length nodes n word w)) said q
@@ -192,7 +192,7 @@ module _ (below : ℕ → List ℕ) (nodes : List ℕ) (n i left : ℕ) {total :
     pub leaf-on : {more : ℕ} → r ≡ Beyond more → total ≡ reach more (flattened (cellsAt below) (drop (i + 1) (entriesAt nodes n)))
     leaf-on q = walk-on (cellsAt below) (entriesAt nodes n) none i left inv (omega (arith, entries-length nodes n word w)) said q
 
-  pub leaf-done : word % 16 ≤ i → Beyond left ≡ total
+  pub leaf-done : size ≤ i → Beyond left ≡ total
   leaf-done l = walk-end (cellsAt below) (entriesAt nodes n) none i left inv (omega (arith, entries-length nodes n word w))
 
 -- ---- an entry

@@ -81,25 +81,25 @@ module _ (m : Memory) (key : List ℕ) where
   one zero links holder root = refl
   one (suc l) links holder root = refl
 
-module _ (nodes cells bytes key : List ℕ) (links holder root : ℕ) {leaf p word : ℕ}
+module _ (nodes cells bytes key : List ℕ) (links holder root : ℕ) {leaf p word size : ℕ}
     (el : leaf ≡ leafIn nodes root (ikeyAt key (8 * links)))
     (ep : p ≡ placeEqual (ikeyAt key (8 * links)) (classAt key (8 * links)) (entriesAt nodes leaf))
-    (w : word ≡ wordAt nodes leaf 1) where
+    (w : word ≡ wordAt nodes leaf 1) (z : size ≡ word % 16) where
   abbrev m : Memory
   m = memory nodes cells bytes
 
   opened : (l : ℕ) → meet l m key links holder root
-      ≡ cond (ltb p (word % 16)) (meetEntry (below m key l) m key links leaf p (getD (entriesAt nodes leaf) p none))
+      ≡ cond (ltb p size) (meetEntry (below m key l) m key links leaf p (getD (entriesAt nodes leaf) p none))
       (Missing holder root links)
   unfolding meetLeaf
-  opened l = one m key l links holder root ∙ rw (← el, ← ep, entries-length nodes leaf word w)
+  opened l = one m key l links holder root ∙ rw (← el, ← ep, entries-length nodes leaf word w, z)
 
-  pub seek-none : word % 16 ≤ p → Missing holder root links ≡ meet (31 - links) (memory nodes cells bytes) key links holder root
-  seek-none h = rw (opened (31 - links), le-ltb p (word % 16) h)
+  pub seek-none : size ≤ p → Missing holder root links ≡ meet (31 - links) (memory nodes cells bytes) key links holder root
+  seek-none h = rw (opened (31 - links), le-ltb p size h)
 
-  module _ (h : p < word % 16) {slot : ℕ} {e : Entry} (s : slot ≡ slotAt p (slotsOf word)) (d : e ≡ entryAt nodes leaf slot) where
+  module _ (h : p < size) {slot : ℕ} {e : Entry} (s : slot ≡ slotAt p (slotsOf word)) (d : e ≡ entryAt nodes leaf slot) where
     met : (l : ℕ) → meet l m key links holder root ≡ meetEntry (below m key l) m key links leaf p e
-    met l = rw (opened l, lt-ltb p (word % 16) h, entry-here nodes leaf word w p h s, ← d)
+    met l = rw (opened l, lt-ltb p size h, entry-here nodes leaf word w p (omega arith) s, ← d)
 
     module _ (c : e .class ≡ 10 → ⊥) {k : Bool} (ek : k ≡ hasKey cells bytes (e .at) key) where
       pub seek-stored : k ≡ true → Stored leaf p (e .at) ≡ meet (31 - links) (memory nodes cells bytes) key links holder root
@@ -132,12 +132,13 @@ module _ (nodes cells bytes key : List ℕ) (links holder root : ℕ) {leaf p wo
 
 -- ---- what it keeps within
 
-module _ (nodes : List ℕ) (n word p : ℕ) (s : NodesLent (length nodes)) (w : word ≡ wordAt nodes n 1) (h : p < word % 16) where
+module _ (nodes : List ℕ) (n word p : ℕ) {size : ℕ} (s : NodesLent (length nodes)) (w : word ≡ wordAt nodes n 1) (z : size ≡ word % 16)
+    (h : p < size) where
   pub leaf-lent : n < nodeCount (length nodes)
-  leaf-lent = omega (arith, in-memory nodes n word w p h)
+  leaf-lent = omega (arith, in-memory nodes n word w p (omega arith))
 
   pub leaf-few : n < 255
-  leaf-few = omega (arith, in-memory nodes n word w p h)
+  leaf-few = omega (arith, in-memory nodes n word w p (omega arith))
 
 module _ (n c : ℕ) {r : Met} (f : Within n c r) where
   pub stored-within : {leaf p cell : ℕ} → r ≡ Stored leaf p cell → (leaf < n) × (p < 15) × (cell < c)

@@ -21,6 +21,7 @@ ghost use Rattle.seek.specs.Within.{Within};
 ghost use Rattle.seek.specs.Below.{layersBelow, cellsAt};
 use ikey::Ordering;
 use leaf::Entry;
+use leaf::inside::size_of;
 use model::Met;
 use model::Reached;
 use node_words::inside::entry_of;
@@ -100,7 +101,7 @@ pub fn place_equal(nodes: &[u64], n: u64, ikey: u64, len: usize) -> usize
     ensures { λ r. ⌜ r ≡ placeEqual ikey (classOf len) (entriesAt (now (nodes .entry)) n) ⌝ }
 {
     let word = word_of(nodes, n, 1);
-    let size = (word % 16) as usize;
+    let size = size_of(word);
     let mut i: usize = 0;
     while i < size {
         let slot = slot_of(word, i);
@@ -190,7 +191,7 @@ pub fn seek(
     let n = place.leaf;
     let p = place.position;
     let word = word_of(nodes, n, 1);
-    if (word % 16) as usize <= p {
+    if size_of(word) <= p {
         return Met::Missing {
             holder,
             root,
@@ -298,7 +299,7 @@ pub fn kth_leaf(nodes: &[u64], links: usize, n: u64, k: u64) -> Reached
     ensures { λ r. ⌜ r ≡ reach k (cellsOfLeaf (layersBelow (31 - links) (now (nodes .entry))) (now (nodes .entry)) n) ⌝ }
 {
     let word = word_of(nodes, n, 1);
-    let size = (word % 16) as usize;
+    let size = size_of(word);
     let mut left = k;
     let mut i: usize = 0;
     while i < size {

@@ -21,7 +21,6 @@ pub use shape_leaves::inside::entry_at;
 pub use shape_leaves::inside::is_zero;
 pub use shape_leaves::inside::leaf_right;
 pub use shape_leaves::inside::rest_zero;
-pub use shape_leaves::inside::slot_at;
 pub use zeros::inside::bytes_zero;
 pub use zeros::inside::still_zero;
 pub use zeros::inside::words_zero;

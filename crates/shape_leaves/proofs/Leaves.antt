@@ -1,43 +1,26 @@
 -- The entries of a leaf in memory, and what stands in its other slots, by positions of its slot word; and a law for each way in which
 -- a judgement of a leaf returns. Assumes nothing.
-use Prim.Native.Nat.{ℕ, suc, _+_, _*_, _-_, _/_, _%_, _^_, _≤_, _<_}
-use mathlib.Core.Path.{_≡_, sym, ap, ap₂, _∙_, subst}
+use Prim.Native.Nat.{ℕ, suc, _+_, _*_, _-_, _/_, _%_, _≤_, _<_}
+use mathlib.Core.Path.{_≡_, sym, ap, ap₂, _∙_}
 use mathlib.Core.Bool.{Bool, true, false, not}
 use mathlib.Core.List.{List, map}
 use native.Mathlib.Omega.{arith}
 use lib.Dec.{leb}
 use lib.ListN.{length, getD, length-map, length-drop}
-use lib.Seq.{length-take-le, getD-take, getD-drop}
+use lib.Seq.{getD-drop}
 use borrow.Author.Count.{below-more}
 use borrow.Author.Tests.{le-leb, lt-leb, eq-eqb, ne-eqb, not-true, not-false}
 use Rattle.bank.specs.Bank.{slotAt}
-use Rattle.bank.proofs.Counts.{slot-lt}
-use Rattle.nibbles.specs.Nibbles.{nibbles}
 use Rattle.nibbles.specs.Words.{validWord}
 use Rattle.nibbles.proofs.Nibbles.{length-nibbles}
-use Rattle.nibbles.proofs.Words.{slot-here}
 use Rattle.leaf_entries.specs.declared.Entry.{Entry}
 use Rattle.leaf.specs.Lists.{every}
-use Rattle.leaf.specs.Leaf.{none, inUse, slotsOf, less, rising}
+use Rattle.leaf.specs.Leaf.{none, slotsOf, less, rising}
 use Rattle.leaf.proofs.Lists.{getD-map, every-all, every-not}
 use Rattle.leaf.proofs.Orders.{less-weight, rising-if, rising-not}
-use Rattle.leaf.proofs.Views.{good-word, size-in-width}
 use Rattle.arena.specs.Layout.{wordAt}
 use Rattle.forest.specs.Nodes.{entryAt, notInUse, entriesAt, restAt, ofClass, isZero, leafRight}
-
--- ---- the slot at any position of a valid word
-
-module _ (word : ℕ) (v : validWord 15 word ≡ true) (i : ℕ) (l : i < 15) where
-  pub slot-any : word / 2 ^ (4 * (i + 1)) % 16 ≡ slotAt i (slotsOf word)
-  slot-any = sym (slot-here 15 word i l)
-
-  pub slot-any-lt : word / 2 ^ (4 * (i + 1)) % 16 < 15
-  slot-any-lt =
-      rw slot-any
-      (let z : slotAt i (slotsOf word) < 15
-      = subst (λ (n : ℕ). slotAt i (slotsOf word) < n) (length-nibbles 15 (word / 16))
-      (slot-lt (nibbles 15 (word / 16)) (good-word word v .once) i (omega (arith, length-nibbles 15 (word / 16)))) in
-      z)
+use Rattle.forest.proofs.InUse.{entries-length, entry-here}
 
 -- ---- an entry by its three words
 
@@ -54,21 +37,11 @@ entry-read nodes k slot =
 -- ---- the entries in use and the rest, by positions
 
 module _ (nodes : List ℕ) (k word : ℕ) (v : validWord 15 word ≡ true) (w : word ≡ wordAt nodes k 1) where
-  used : entriesAt nodes k ≡ map (entryAt nodes k) (inUse (slotsOf word))
-  unfolding entriesAt
-  used = ap (λ (x : ℕ). map (entryAt nodes k) (inUse (slotsOf x))) (sym w)
-
   used-length : length (entriesAt nodes k) ≡ word % 16
-  used-length =
-      ap length used ∙ length-map (inUse (slotsOf word)) (entryAt nodes k)
-      ∙ length-take-le (word % 16) (slotsOf word .slots) (size-in-width word v)
+  used-length = entries-length nodes k word w
 
   used-at : (i : ℕ) {slot : ℕ} → i < word % 16 → slot ≡ slotAt i (slotsOf word) → getD (entriesAt nodes k) i none ≡ entryAt nodes k slot
-  used-at i {slot} l e =
-      ap (λ (es : List Entry). getD es i none) used
-      ∙ getD-map (entryAt nodes k) (inUse (slotsOf word)) i 0 none
-      (let z : i < length (inUse (slotsOf word)) = rw (length-take-le (word % 16) (slotsOf word .slots) (size-in-width word v)) l in z)
-      ∙ ap (entryAt nodes k) (getD-take (word % 16) (slotsOf word .slots) i 0 l ∙ sym e)
+  used-at i l e = entry-here nodes k word w i l e
 
   other : restAt nodes k ≡ map (entryAt nodes k) (notInUse (slotsOf word))
   unfolding restAt
@@ -198,8 +171,6 @@ module _ (nodes : List ℕ) (k : ℕ) where
         unfolding leafRight
         leaf-rest h e =
             rw (eq-eqb (getD nodes (2 + k * 47) 0) 1 kind, ← v, not-false valid hv, ← ec, not-false classes hc, ← er, not-false rises h) e
-
-pub ruleset slots = (slot-any, slot-any-lt)
 
 pub ruleset classes = (class-not, class-next, class-all)
 

@@ -3,21 +3,14 @@ ghost use mathlib.Core.Path.{_≡_};
 ghost use mathlib.Core.Bool.{true};
 ghost use Prim.Native.Nat.{_+_, _≤_, _<_};
 ghost use lib.ListN.{length};
-ghost use Rattle.bank.specs.Bank.{slotAt};
 ghost use Rattle.nibbles.specs.Words.{validWord};
 ghost use Rattle.leaf.specs.Lists.{every};
-ghost use Rattle.leaf.specs.Leaf.{slotsOf, rising};
+ghost use Rattle.leaf.specs.Leaf.{rising};
 ghost use Rattle.arena.specs.Layout.{nodeStart, wordAt};
 ghost use Rattle.forest.specs.Nodes.{entryAt, entriesAt, restAt, ofClass, isZero, leafRight};
 use leaf::Entry;
-
-// The slot at any position of a valid word.
-pub fn slot_at(word: u64, i: usize) -> usize
-    requires { ⌜ (validWord 15 word ≡ true) × (i < 15) ⌝ }
-    ensures { λ r. ⌜ (r ≡ slotAt i (slotsOf word)) × (r < 15) ⌝ }
-{
-    ((word >> (4 * (i + 1))) % 16) as usize
-}
+use leaf_entries::inside::size_of;
+use leaf_entries::inside::slot_at;
 
 // The entry in a slot of node k.
 pub fn entry_at(nodes: &[u64], k: usize, slot: usize) -> Entry
@@ -58,7 +51,7 @@ pub fn entries_of_class(nodes: &[u64], k: usize, word: u64) -> bool
     requires { ⌜ (nodeStart k + 47 ≤ length (now nodes)) × (validWord 15 word ≡ true) × (word ≡ wordAt (now nodes) k 1) ⌝ }
     ensures { λ r. ⌜ r ≡ every ofClass (entriesAt (now (nodes .entry)) k) ⌝ }
 {
-    let size = leaf::inside::size_of(word);
+    let size = size_of(word);
     let mut i: usize = 0;
     while i < size {
         let slot = slot_at(word, i);
@@ -75,7 +68,7 @@ pub fn entries_rising(nodes: &[u64], k: usize, word: u64) -> bool
     requires { ⌜ (nodeStart k + 47 ≤ length (now nodes)) × (validWord 15 word ≡ true) × (word ≡ wordAt (now nodes) k 1) ⌝ }
     ensures { λ r. ⌜ r ≡ rising (entriesAt (now (nodes .entry)) k) ⌝ }
 {
-    let size = leaf::inside::size_of(word);
+    let size = size_of(word);
     let mut i: usize = 1;
     while i < size {
         let e = entry_at(nodes, k, slot_at(word, i - 1));
@@ -93,7 +86,7 @@ pub fn rest_zero(nodes: &[u64], k: usize, word: u64) -> bool
     requires { ⌜ (nodeStart k + 47 ≤ length (now nodes)) × (validWord 15 word ≡ true) × (word ≡ wordAt (now nodes) k 1) ⌝ }
     ensures { λ r. ⌜ r ≡ every isZero (restAt (now (nodes .entry)) k) ⌝ }
 {
-    let mut i: usize = leaf::inside::size_of(word);
+    let mut i: usize = size_of(word);
     while i < 15 {
         let e = entry_at(nodes, k, slot_at(word, i));
         if !is_zero(e) {

@@ -1,6 +1,6 @@
 -- The lowest free cell, and the key in a cell: a law for each way in which the code returns. Assumes nothing.
-use mathlib.Core.Path.{_≡_, refl, sym, _∙_}
-use mathlib.Core.List.{List, [], _∷_}
+use mathlib.Core.Path.{_≡_, sym, ap, _∙_}
+use mathlib.Core.List.{List, []}
 use Prim.Native.Nat.{ℕ, _+_, _*_, _-_, _/_, _≤_, _<_}
 use native.Mathlib.Omega.{arith}
 use borrow.Author.Needs.{needs}
@@ -10,39 +10,22 @@ use Rattle.lent_nodes.specs.declared.inside.Lowest.{Lowest}
 use Rattle.lent_nodes.specs.declared.inside.Lowest.the-variants.{At, Nothing}
 use Rattle.arena.specs.Parts.{part}
 use Rattle.arena.specs.Layout.{cellStart, markAt, keyAt}
-use Rattle.arena.specs.Free.{isFree, freeCells, lowest}
-use Rattle.arena.proofs.Frees.{first-passing}
+use Rattle.arena.specs.Free.{freeCells, lowest}
+use Rattle.lent_nodes.proofs.Counts.{lowest-first, lowest-none, lowest-free}
 use Rattle.seek.specs.Lengths.{CellsLent}
 
 -- ---- the lowest free cell
 
-no-number : {k : ℕ} → At k ≡ Nothing → ⊥
-no-number e = let z : _≡_ {A = ℕ} 0 1 = cc in omega arith
-
 module _ (cells : List ℕ) (n : ℕ) {r : Lowest} (e : r ≡ lowest (freeCells cells n)) where
   pub fresh-at : {k : ℕ} → r ≡ At k → k ≡ getD (freeCells cells n) 0 0
-  fresh-at {k} a = by (freeCells cells n) (sym a ∙ e)
-    where
-      by : (ks : List ℕ) → At k ≡ lowest ks → k ≡ getD ks 0 0
-      by [] q = absurd (no-number q)
-      by (j ∷ js) q = cc
+  fresh-at a =
+      let (rest, q) = lowest-first (freeCells cells n) (sym e ∙ a) in sym (ap (λ (ks : List ℕ). getD ks 0 0) q)
 
   pub fresh-none : r ≡ Nothing → 0 ≡ getD (freeCells cells n) 0 0
-  fresh-none a = by (freeCells cells n) (sym a ∙ e)
-    where
-      by : (ks : List ℕ) → Nothing ≡ lowest ks → 0 ≡ getD ks 0 0
-      by [] q = refl
-      by (j ∷ js) q = absurd (no-number (sym q))
+  fresh-none a = sym (ap (λ (ks : List ℕ). getD ks 0 0) (lowest-none (freeCells cells n) (sym e ∙ a)))
 
   pub fresh-lt : {k : ℕ} → r ≡ At k → k < n
-  fresh-lt {k} a = by (freeCells cells n) refl (sym a ∙ e)
-    where
-      by : (ks : List ℕ) → freeCells cells n ≡ ks → At k ≡ lowest ks → k < n
-      by [] f q = absurd (no-number q)
-      by (j ∷ js) f q =
-          let d = first-passing (isFree cellStart cells) 0 n f in
-          let w : k ≡ j = cc in
-          omega (arith, d .high)
+  fresh-lt a = lowest-free cellStart cells n (sym e ∙ a) .in-range
 
 -- ---- the key in a cell
 

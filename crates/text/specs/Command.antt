@@ -12,6 +12,7 @@ use Rattle.arena.specs.Parts.{putPart}
 use Rattle.text.specs.Split.{split}
 use Rattle.text.specs.Fields.{same, isKey, keyIn, isFrame, numberIn}
 
+-- a command: a put with its key and frame number, a find or a removal with its key, the listing, or a line that is bad
 pub data Command : Type 0 where
   put : List ℕ → ℕ → Command
   find : List ℕ → Command
@@ -19,16 +20,19 @@ pub data Command : Type 0 where
   list : Command
   bad : Command
 
--- the words `put`, `find`, `del` and `list`
+-- the word `put`
 abbrev pub putWord : List ℕ
 putWord = 112 ∷ 117 ∷ 116 ∷ []
 
+-- the word `find`
 abbrev pub findWord : List ℕ
 findWord = 102 ∷ 105 ∷ 110 ∷ 100 ∷ []
 
+-- the word `del`
 abbrev pub delWord : List ℕ
 delWord = 100 ∷ 101 ∷ 108 ∷ []
 
+-- the word `list`
 abbrev pub listWord : List ℕ
 listWord = 108 ∷ 105 ∷ 115 ∷ 116 ∷ []
 
@@ -74,6 +78,7 @@ pub record Heard : Type 0 where
   pub line : Line
   pub buffer : List ℕ
 
+-- this line, and this buffer behind it
 abbrev pub heard : Line → List ℕ → Heard
 heard line buffer = record { line = line; buffer = buffer }
 

@@ -51,6 +51,7 @@ isPairs field = ltb 0 (length field) && eqb (length field % 2) 0 && every isHex 
 unfoldable pub isKey : List ℕ → Bool
 isKey field = same field dash || isPairs field
 
+-- the bytes of a key: none for `-`
 unfoldable pub keyIn : List ℕ → List ℕ
 keyIn field = cond (same field dash) [] (pairs field)
 
@@ -59,6 +60,7 @@ unfoldable pub decimalFrom : ℕ → List ℕ → ℕ
 decimalFrom n [] = n
 decimalFrom n (d ∷ ds) = decimalFrom (n * 10 + (d - 48)) ds
 
+-- the number that decimal digits spell
 unfoldable pub numberIn : List ℕ → ℕ
 numberIn field = decimalFrom 0 field
 

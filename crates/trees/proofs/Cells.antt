@@ -11,14 +11,12 @@ use Rattle.trees.specs.Nodes.{oneAt}
 use Rattle.trees.specs.FreeNumbers.{timesIn}
 use Rattle.trees.specs.Cells.{CellList, orElse, cellAt, freeCellNumbers}
 use Rattle.trees.proofs.Nodes.{oneAt-same}
+use Rattle.trees.proofs.FreeNumbers.{heads}
 
 free-cell-taken : (cs : CellList) (i r : ℕ) (fs : List ℕ) (x : List ℕ × ℕ) → freeCellNumbers i cs ≡ r ∷ fs
     → (n : ℕ) × (r ≡ i + n) × (n < length cs) × (freeCellNumbers i (set cs n (some x)) ≡ fs)
 free-cell-taken [] i r fs x e = let z : _≡_ {A = ℕ} 0 1 = cc in absurd (omega arith)
 free-cell-taken (none ∷ cs) i r fs x e = (0, omega (arith, heads e), omega arith, cc)
-  where
-    heads : {a b : ℕ} {l r : List ℕ} → a ∷ l ≡ b ∷ r → a ≡ b
-    heads e = cc
 free-cell-taken (some y ∷ cs) i r fs x e =
     let t = free-cell-taken cs (suc i) r fs x e in (suc (t .0), omega (arith, t .1), omega (arith, t .2), t .3)
 

@@ -8,7 +8,7 @@ use lib.ListN.{length, set}
 use Rattle.trees.specs.Nodes.{Node, free, leaf, internode, NodeList, nodeIn, InUse}
 use Rattle.trees.specs.FreeNumbers.{freeNumbers}
 
-heads : {a b : ℕ} {l r : List ℕ} → a ∷ l ≡ b ∷ r → a ≡ b
+pub heads : {a b : ℕ} {l r : List ℕ} → a ∷ l ≡ b ∷ r → a ≡ b
 heads e = cc
 
 module _ {W : Type 0} where

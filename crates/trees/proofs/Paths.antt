@@ -83,11 +83,6 @@ module _ {B F W : Type 0} {cmp : B → B → Ordering} (o : Order B cmp) (lk : B
   flatten-sorted (_s∷_ {e = e} {es = es} h s) (a a∷ bs) (c a∷ cs) =
       sorted-append c (flatten-sorted s bs cs) (all-map (λ x p. aboves (x .0) (p .0) (all-map (λ y q. rw (p .1) q) h) bs) a)
 
-bytes-below : (ks : List ℕ) (K : List ℕ) → BelowLinks ks K → Bytes K
-unfolding BelowLinks
-bytes-below [] K u = u
-bytes-below (k ∷ ks) K u = u .0
-
 pub order-below : (ks : List ℕ) (a b : List ℕ) → BelowLinks ks a → BelowLinks ks b
     → bytewise a b ≡ bytewise (restBelow ks a) (restBelow ks b)
 unfolding BelowLinks restBelow

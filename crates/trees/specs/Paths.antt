@@ -8,7 +8,7 @@ use Rattle.order.specs.Bytes.{Bytes}
 use Rattle.order.specs.Layer.{bigEndian, classOf, ikeyAt, classAt}
 use Rattle.trees.specs.Nodes.{IkeyClass}
 
--- the ikey of the first eight bytes, and one
+-- the ikey of the first eight bytes, plus 1
 unfoldable pub raisedIkey : List ℕ → ℕ
 raisedIkey K = suc (bigEndian 8 K)
 

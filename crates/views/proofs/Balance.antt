@@ -6,7 +6,6 @@ use mathlib.Core.List.{List}
 use Prim.Native.Nat.{ℕ, zero, suc, _+_, _≤_, _<_}
 use native.Mathlib.Omega.{arith}
 use native.Mathlib.Decide.{ℕ-discrete}
-use borrow.Author.Tests.{lt-ltb, le-ltb}
 use Rattle.arena.specs.Free.{consIf, passing}
 use Rattle.arena.proofs.Words.{lt-or-ge}
 use Rattle.trees.specs.Nodes.{oneAt}
@@ -14,6 +13,7 @@ use Rattle.trees.specs.FreeNumbers.{timesIn}
 use Rattle.trees.specs.WholeTree.{onesBelow}
 use Rattle.trees.proofs.Nodes.{oneAt-same}
 use Rattle.trees.proofs.WholeTree.{onesBelow-le}
+use Rattle.trees.proofs.WholeCalls.{onesBelow-one, onesBelow-zero}
 use Rattle.views.proofs.TreeViews.{hit-other}
 use Rattle.views.proofs.Counts.{some-or-none}
 
@@ -79,12 +79,6 @@ times-out test n j h = times-right test 0 n j (omega arith)
 
 -- ---- each is counted once, or passes
 
-ones-in : (n j : ℕ) → j < n → onesBelow n j ≡ 1
-ones-in n j h = rw (lt-ltb j n h)
-
-ones-out : (n j : ℕ) → n ≤ j → onesBelow n j ≡ 0
-ones-out n j h = rw (le-ltb j n h)
-
 abbrev oneWhere : Bool → ℕ
 oneWhere b = cond b 1 0
 
@@ -110,12 +104,12 @@ module _ (test : ℕ → Bool) (n r j : ℕ) where
       used : 0 < r → Balanced
       used h =
           let (inside, fails) = counted h in
-          omega (arith, times-in test n j inside, ap oneWhere fails, ones-in n j inside)
+          omega (arith, times-in test n j inside, ap oneWhere fails, onesBelow-one n j inside)
 
       unused : r ≡ 0 → Balanced
       unused z =
-          ⊎-elim (λ h. omega (arith, times-in test n j h, ap oneWhere (other h z), ones-in n j h))
-          (λ h. omega (arith, times-out test n j h, ones-out n j h)) (lt-or-ge j n)
+          ⊎-elim (λ h. omega (arith, times-in test n j h, ap oneWhere (other h z), onesBelow-one n j h))
+          (λ h. omega (arith, times-out test n j h, onesBelow-zero n j h)) (lt-or-ge j n)
 
   module _ (b : Balanced) where
     pub counted-once : r ≤ 1
@@ -123,8 +117,8 @@ module _ (test : ℕ → Bool) (n r j : ℕ) where
 
     pub counted-fails : 0 < r → (j < n) × (test j ≡ false)
     counted-fails h =
-        ⊎-elim (λ inside. (inside, none-fails (test j) (omega (arith, times-in test n j inside, ones-in n j inside))))
-        (λ past. absurd (omega (arith, ones-out n j past))) (lt-or-ge j n)
+        ⊎-elim (λ inside. (inside, none-fails (test j) (omega (arith, times-in test n j inside, onesBelow-one n j inside))))
+        (λ past. absurd (omega (arith, onesBelow-zero n j past))) (lt-or-ge j n)
 
     pub other-passes : j < n → r ≡ 0 → test j ≡ true
-    other-passes h z = one-passes (test j) (omega (arith, times-in test n j h, ones-in n j h))
+    other-passes h z = one-passes (test j) (omega (arith, times-in test n j h, onesBelow-one n j h))

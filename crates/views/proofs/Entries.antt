@@ -3,23 +3,22 @@
 use mathlib.Core.Path.{_≡_, refl, ap}
 use mathlib.Core.Bool.{Bool, true, false, cond, _&&_}
 use mathlib.Core.List.{List, [], _∷_, map}
-use Prim.Native.Nat.{ℕ, suc, _%_, _/_, min, _≤_, compare·suc-suc, Ordering·lt}
+use Prim.Native.Nat.{ℕ, suc, min, _≤_, compare·suc-suc, Ordering·lt}
 use native.Mathlib.Omega.{arith}
 use lib.Dec.{T, eqb, leb→le}
-use lib.ListN.{length, take, length-map, length-take}
+use lib.ListN.{length}
 use borrow.Author.Tests.{eqb-true, eqb-false}
 use Rattle.bank.proofs.Tests.{and-left, and-right, is-true}
 use Rattle.order.specs.Map.{All, a[], _a∷_, Sorted, _s∷_, s[]}
-use Rattle.nibbles.specs.Nibbles.{nibbles}
 use Rattle.nibbles.specs.Words.{validWord}
-use Rattle.nibbles.proofs.Nibbles.{length-nibbles}
 use Rattle.leaf_entries.specs.declared.Entry.{Entry}
 use Rattle.leaf.specs.Lists.{every}
 use Rattle.leaf.specs.Leaf.{rank, less, rising}
 use Rattle.leaf.proofs.Orders.{is-less}
 use Rattle.arena.specs.Layout.{wordAt, kindAt}
-use Rattle.forest.specs.Nodes.{entryAt, entriesAt, restAt, ofClass, isZero, leafRight}
+use Rattle.forest.specs.Nodes.{entriesAt, restAt, ofClass, isZero, leafRight}
 use Rattle.forest.specs.Trees.{Key, Ref, cell, link, seenAs}
+use Rattle.forest.proofs.InUse.{entries-length, seen-ikey}
 use Rattle.trees.specs.Nodes.{layerOrder}
 use Rattle.trees.specs.Layers.{Pointer}
 use Rattle.trees.proofs.Nodes.{layer-order}
@@ -52,14 +51,6 @@ pub entries-exact : (es fs : List (Key × Ref)) → map entryView es ≡ map ent
 entries-exact es fs e = map-exact entryView entry-exact es fs e
 
 -- ---- the ikey and the class of an entry
-
-seen-ikey : (e : Entry) → seenAs e .0 .0 ≡ e .ikey
-unfolding seenAs
-seen-ikey e = go (eqb (e .class) 10)
-  where
-    go : (b : Bool) → (cond {A = Key × Ref} b ((e .ikey, 9), link (e .at)) ((e .ikey, e .class), cell (e .at))) .0 .0 ≡ e .ikey
-    go true = refl
-    go false = refl
 
 seen-class : (e : Entry) → T (ofClass e) → seenAs e .0 .1 ≡ rank e
 unfolding seenAs
@@ -149,8 +140,4 @@ module _ (nodes : List ℕ) (k : ℕ) (right : T (leafRight nodes k)) where
       (and-right (every ofClass (entriesAt nodes k)) _ (and-right (validWord 15 (wordAt nodes k 1)) _ after-kind))
 
 pub leaf-few : (nodes : List ℕ) (k : ℕ) → length (entriesAt nodes k) ≤ 15
-unfolding entriesAt
-leaf-few nodes k =
-    let w = wordAt nodes k 1 in
-    let slots : List ℕ = nibbles 15 (w / 16) in
-    omega (arith, length-map (take (w % 16) slots) (entryAt nodes k), length-take (w % 16) slots, length-nibbles 15 (w / 16))
+leaf-few nodes k = omega (arith, entries-length nodes k (wordAt nodes k 1) refl)

@@ -1,15 +1,15 @@
 -- A tree lists no more keys than there are cells, and each of its keys has 256 bytes at most. Assumes nothing.
-use mathlib.Core.Path.{_≡_, refl, sym, ap, _∙_}
+use mathlib.Core.Path.{_≡_, sym, ap, _∙_}
 use mathlib.Core.Logic.{inl, inr}
 use mathlib.Core.List.{List, [], _∷_, _++_}
-use Prim.Native.Nat.{ℕ, zero, suc, _+_, _-_, _*_, _≤_, _<_}
+use Prim.Native.Nat.{ℕ, zero, suc, _-_, _*_, _≤_, _<_}
 use native.Mathlib.Omega.{arith}
-use native.Mathlib.Decide.{ℕ-discrete}
 use lib.Dec.{T}
 use lib.ListN.{length, length-append, length-map, length-take}
 use Rattle.order.specs.Map.{All, a[], _a∷_}
 use Rattle.order.specs.Lists.{total, flattened}
 use Rattle.order.proofs.Map.{all-map}
+use Rattle.order.proofs.Sums.{sumBelow, sum-plus, sum-most, sum-part}
 use Rattle.arena.specs.Parts.{part}
 use Rattle.arena.specs.Layout.{keyAt, keyStart, markAt}
 use Rattle.arena.specs.Memory.{Memory, cellCount}
@@ -24,31 +24,12 @@ use Rattle.views.proofs.Nodes.{right-mark}
 use Rattle.views.proofs.Whole.{lengths}
 use Rattle.views.proofs.Listed.{keyAndFrame, cells-listed, cells-right}
 
--- ---- sums over the numbers below n
-
-abbrev sumBelow : ℕ → (ℕ → ℕ) → ℕ
-sumBelow zero f = 0
-sumBelow (suc n) f = f n + sumBelow n f
-
-sum-plus : (n : ℕ) (f g : ℕ → ℕ) → sumBelow n (λ k. f k + g k) ≡ sumBelow n f + sumBelow n g
-sum-plus zero f g = refl
-sum-plus (suc n) f g = omega (arith, sum-plus n f g)
-
-sum-most : (n : ℕ) (f : ℕ → ℕ) → ((k : ℕ) → f k ≤ 1) → sumBelow n f ≤ n
-sum-most zero f h = omega arith
-sum-most (suc n) f h = omega (arith, h n, sum-most n f h)
-
 -- cell c is one of the first n
 abbrev cellOnce : ℕ → ℕ → ℕ
 cellOnce c j = once (cellNo c) (cellNo j)
 
 sum-once : (n c : ℕ) → c < n → 1 ≤ sumBelow n (cellOnce c)
-sum-once zero c h = absurd (omega arith)
-sum-once (suc n) c h = go (ℕ-discrete c n) (sum-once n c)
-  where
-    go : Dec (c ≡ n) → (c < n → 1 ≤ sumBelow n (cellOnce c)) → 1 ≤ cellOnce c n + sumBelow n (cellOnce c)
-    go (yes e) r = rw (← e) (omega (arith, once-same (cellNo c)))
-    go (no ne) r = omega (arith, r (omega arith))
+sum-once n c h = omega (arith, sum-part n c (cellOnce c) h, once-same (cellNo c))
 
 -- ---- each cell of an entry is reached at its own number, one of the first C
 

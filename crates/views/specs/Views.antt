@@ -24,7 +24,7 @@ abbrev pub tabled : {A : Type 0} → (ℕ → A) → ℕ → ℕ → List A
 tabled f i zero = []
 tabled f i (suc n) = f i ∷ tabled f (suc i) n
 
--- an ikey and a class, and what an entry has
+-- an ikey, one higher than its eight bytes, and a class
 abbrev pub keyView : words.Key → IkeyClass
 keyView k = (suc (k .0), k .1)
 
@@ -55,7 +55,7 @@ cellView cells bytes c = cond (eqb (markAt cells c) 0) none (some (keyAt cells b
 abbrev pub cellsView : Memory → CellList
 cellsView m = tabled (cellView (m .cells) (m .bytes)) 0 (cellCount (length (m .cells)))
 
--- the tree of a layer, and the layers
+-- the tree of a layer
 abbrev pub treeView : (h : ℕ) → words.Tree h → TreeOver Pointer h
 treeView zero t = (t .0, map entryView (t .1))
 treeView (suc h) t = (t .0, map (λ p. (p .0, treeView h (p .1))) (t .1))

@@ -1,6 +1,6 @@
 -- Laws on the walk: one for each way that the code returns, from what is known there. Assumes nothing.
 use mathlib.Core.Path.{_≡_, refl, sym, ap, _∙_}
-use mathlib.Core.Bool.{Bool, true, false, cond, _&&_}
+use mathlib.Core.Bool.{Bool, true, false, _&&_}
 use mathlib.Core.List.{List, [], _∷_, _++_, map}
 use mathlib.Core.Option.{Option, none, some}
 use Prim.Native.Nat.{ℕ, zero, suc, _+_, _-_, _*_, _/_, _%_, _≤_, _<_}
@@ -10,15 +10,13 @@ use native.Mathlib.Omega.{arith}
 use borrow.Author.Needs.{needs}
 use borrow.Author.Tests.{not-true, not-false, eq-eqb, ne-eqb, leb-true, lt-ltb, le-ltb}
 use lib.Dec.{eqb, leb, ltb}
-use lib.ListN.{length, getD, set, take, drop, length-map, length-take, length-replicate, drop-of-length-le, List·getD-map, List·getD-eq-default}
-use lib.Seq.{drop-cons, getD-take, take-suc-set, length-take-le, take-at}
+use lib.ListN.{length, getD, set, take, drop, length-map, length-replicate, drop-of-length-le, List·getD-map, List·getD-eq-default}
+use lib.Seq.{drop-cons, take-suc-set, length-take-le, take-at}
 use Rattle.bank.specs.Bank.{slotAt}
-use Rattle.nibbles.specs.Nibbles.{nibbles}
 use Rattle.nibbles.specs.Words.{validWord}
-use Rattle.nibbles.proofs.Nibbles.{length-nibbles}
 use Rattle.leaf_entries.specs.declared.Entry.{Entry}
 use Rattle.leaf.specs.Lists.{every}
-use Rattle.leaf.specs.Leaf.{slotsOf, inUse, rising}
+use Rattle.leaf.specs.Leaf.{slotsOf, rising, none as no-entry}
 use Rattle.internode.specs.Lists as internode
 use Rattle.arena.specs.Parts.{part, putPart, zeros}
 use Rattle.arena.specs.Layout.{nodeStart, kindAt, wordAt, markAt}
@@ -26,8 +24,11 @@ use Rattle.arena.specs.Memory.{Memory, memory}
 use Rattle.arena.proofs.Words.{part-at, part-length, put-length}
 use Rattle.forest.specs.Nodes.{allZero, entryAt, entriesAt, restAt, ofClass, isZero, ikeysAt, childrenAt, countAt, leafRight, internodeRight}
 use Rattle.forest.specs.Cells.{cellRight, filed}
-use Rattle.forest.specs.Trees.{Key, Ref, cell, link, seenAs, nodeNo, cellNo, leftmost, rightmost}
+use Rattle.forest.specs.Trees.{Key, Ref, seenAs, nodeNo, cellNo, leftmost, rightmost}
 use Rattle.forest.specs.Walk.{Seen, Step, when, andThen, each, see, walkEntry, spans, walkSpan, walkLeaf, walkInternode, walkNode, heightAt, walkOne, walkLayer}
+use Rattle.forest.proofs.InUse as in-use
+use Rattle.forest.proofs.Heights.{height-most}
+use Rattle.forest.proofs.InUse.{seen-ikey}
 use Rattle.edge.specs.declared.Edge.{Edge}
 use Rattle.edge.specs.Edges.{leftOf, rightOf}
 use Rattle.walk.specs.Steps.{told, below, refsAt, cellOf, edgeAt}
@@ -105,14 +106,6 @@ module _ {X : Type 0} (go : X → Step) (x : X) (xs : List X) (seen : Seen) {tot
 
 -- ---- an entry
 
-seen-ikey : (e : Entry) → seenAs e .0 .0 ≡ e .ikey
-unfolding seenAs
-seen-ikey e = by (eqb (e .class) 10)
-  where
-    by : (b : Bool) → cond {A = Key × Ref} b ((e .ikey, 9), link (e .at)) ((e .ikey, e .class), cell (e .at)) .0 .0 ≡ e .ikey
-    by true = refl
-    by false = refl
-
 module _ (m : Memory) (above : List ℕ) (links : ℕ) (e : Entry) (seen : Seen) where
   pub entry-cell : {o : Option Seen} → (e .class ≡ 10 → ⊥) → o ≡ cellOf (m .cells) (m .bytes) (take links above) e seen
       → o ≡ refsAt m above links (seenAs e .0) (seenAs e .1) seen
@@ -167,25 +160,16 @@ leaf-valid nodes k q f =
     (every ofClass (entriesAt nodes k) && (rising (entriesAt nodes k) && every isZero (restAt nodes k))) (sym q ∙ f)
 
 module _ (nodes : List ℕ) (k : ℕ) where
-  in-use : length (inUse (slotsOf (wordAt nodes k 1))) ≡ wordAt nodes k 1 % 16
-  in-use = rw (length-take, length-nibbles 15 (wordAt nodes k 1 / 16)) (omega arith)
-
   entries-length : length (map seenAs (entriesAt nodes k)) ≡ wordAt nodes k 1 % 16
-  unfolding entriesAt
-  entries-length = length-map (entriesAt nodes k) seenAs ∙ length-map (inUse (slotsOf (wordAt nodes k 1))) (entryAt nodes k) ∙ in-use
+  entries-length = length-map (entriesAt nodes k) seenAs ∙ in-use.entries-length nodes k (wordAt nodes k 1) refl
 
   entries-from : (i : ℕ) → i < wordAt nodes k 1 % 16
       → drop i (map seenAs (entriesAt nodes k)) ≡ seenAs (entryAt nodes k (slotAt i (slotsOf (wordAt nodes k 1)))) ∷ drop (i + 1) (map seenAs (entriesAt nodes k))
-  unfolding entriesAt
   entries-from i h =
-      let us : List ℕ = inUse (slotsOf (wordAt nodes k 1)) in
-      let at : getD (map seenAs (map (entryAt nodes k) us)) i (seenAs (entryAt nodes k 0)) ≡ seenAs (entryAt nodes k (slotAt i (slotsOf (wordAt nodes k 1))))
-      = List·getD-map seenAs (map (entryAt nodes k) us) i (entryAt nodes k 0)
-      ∙ ap seenAs (List·getD-map (entryAt nodes k) us i 0)
-      ∙ ap (λ (s : ℕ). seenAs (entryAt nodes k s)) (getD-take (wordAt nodes k 1 % 16) (nibbles 15 (wordAt nodes k 1 / 16)) i 0 h) in
       rw (add-one i)
-      (drop-cons (map seenAs (map (entryAt nodes k) us)) i (seenAs (entryAt nodes k 0)) (rw entries-length h)
-      ∙ ap (λ (x : Key × Ref). x ∷ drop (suc i) (map seenAs (map (entryAt nodes k) us))) at)
+      (drop-cons (map seenAs (entriesAt nodes k)) i (seenAs no-entry) (rw entries-length h)
+      ∙ ap (λ (x : Key × Ref). x ∷ drop (suc i) (map seenAs (entriesAt nodes k)))
+      (List·getD-map seenAs (entriesAt nodes k) i no-entry ∙ ap seenAs (in-use.entry-here nodes k (wordAt nodes k 1) refl i h refl)))
 
 module _ (ref : Key → Ref → Step) (nodes : List ℕ) (lo hi k i : ℕ) (seen : Seen) {total : Option Seen}
     (inv : each (walkEntry ref lo hi) (drop i (map seenAs (entriesAt nodes k))) seen ≡ total) {size : ℕ} (z : size ≡ wordAt nodes k 1 % 16) where
@@ -357,18 +341,8 @@ module _ (ref : Key → Ref → Step) (nodes : List ℕ) (h lo hi n : ℕ) (seen
 
 -- ---- a layer
 
-height-255 : (nodes : List ℕ) (most n : ℕ) → heightAt nodes most n ≤ most
-unfolding heightAt
-height-255 nodes zero n = omega arith
-height-255 nodes (suc most) n = by (eqb (kindAt nodes n) 2) (height-255 nodes most (getD (childrenAt nodes n) 0 0))
-  where
-    by : (b : Bool) → heightAt nodes most (getD (childrenAt nodes n) 0 0) ≤ most
-        → cond b (suc (heightAt nodes most (getD (childrenAt nodes n) 0 0))) 0 ≤ suc most
-    by true l = omega arith
-    by false l = omega arith
-
 pub height-few : (nodes : List ℕ) (root : ℕ) {h : ℕ} → h ≡ heightAt nodes 255 root → h ≤ 255
-height-few nodes root e = rw e (height-255 nodes 255 root)
+height-few nodes root e = rw e (height-most nodes 255 root)
 
 layer-is : (l : ℕ) (m : Memory) (above : List ℕ) (root : ℕ) (seen : Seen) → walkLayer l m above root seen ≡ walkOne (below l m) m above root seen
 unfolding walkLayer below

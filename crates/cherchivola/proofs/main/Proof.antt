@@ -1,14 +1,13 @@
 -- `main` is safe and ends: the parts are counted. Assumes nothing.
 use borrow.Author.Needs.{needs}
 use Prim.Native.Nat.{_-_, _≤_}
-use mathlib.Core.Path.{_≡_, sym}
+use mathlib.Core.Path.{_≡_}
 use lib.ListN.{length}
-use lib.Seq.{length-take-le}
 use Rattle.cherchivola.proofs.main.Statement.{statement}
 use Rattle.cherchivola.proofs.main.Tie as tie
 
 abbrev Inv-loop : tie.InvT-loop
-Inv-loop nodes₀ cells₀ bytes₀ line₀ out₀ part₀ kept₀ parts₀ nodes cells bytes line out part kept parts = (kept ≤ 1201) × (length nodes ≡ 3010) × (length cells ≡ 256) × (length bytes ≡ 32768) × (length line ≡ 1201) × (length out ≡ 136710) × (length part ≡ 65536)
+Inv-loop nodes₀ cells₀ bytes₀ line₀ out₀ part₀ kept₀ parts₀ nodes cells bytes line out part kept parts = (kept ≤ 1201) × (length nodes ≡ 3010) × (length cells ≡ 256) × (length bytes ≡ 32768) × (length line ≡ 1201) × (length out ≡ 136182) × (length part ≡ 65536)
 
 abbrev μ-loop : tie.MeasureT-loop
 μ-loop nodes₀ cells₀ bytes₀ line₀ out₀ part₀ kept₀ parts₀ nodes cells bytes line out part kept parts = 18446744073709551615 - parts
@@ -42,6 +41,8 @@ main-spec =
     (λ c. search needs)
     (λ c. search needs)
     (λ c κs. search needs)
+    (λ c κs. search needs)
+    (λ c. search needs)
     (λ c. search needs)
     (λ c. search needs)
     loop-again
@@ -49,8 +50,8 @@ main-spec =
     (λ c. search needs)
     (λ c. search needs)
     (λ c. search needs)
-    (λ c. sym (length-take-le _ _ (search needs)))
     (λ c. search needs)
+    (λ c κs. search needs)
     (λ c κs. search needs)
     (λ c. search needs)
     (λ c. search needs))

@@ -2,12 +2,11 @@
 use contract.Running.{givenOf, tables, tablesOf}
 use denote.Triple.Spec.{tripleOf}
 use denote.Triple.Table.{entered, cited}
-use Rattle.key_layer.specs.Keys.{suffixFrom}
 use Rattle.key.proofs.suffix.Symbol as g-def
 use Rattle.key.proofs.suffix.Symbol.{name as #g}
 use Rattle.key.proofs.suffix.Met as g-thm
 use Rattle.held_key.proofs.Asking.{Asks, asks}
-use Rattle.held_key.proofs.Answers.{part, SaysPart}
+use Rattle.held_key.proofs.Answers.{part, SaysSuffix}
 use Rattle.held_key.proofs.suffix.Key.{name as #f}
 use Rattle.held_key.proofs.suffix as f
 use Rattle.held_key.proofs.suffix.Statement as stated
@@ -18,7 +17,7 @@ unfolding code.routine tablesOf
 suffix-spec 𝓤 H 𝓜 𝓖 𝓡 =
     entered 𝓤 H (tripleOf 𝓤 H (𝓖 .A) f.signature (f.spec 𝓤 H (𝓖 .A) (𝓜 .mem) (𝓡 .run)))
     (tables 𝓤 H 𝓜 𝓡 code.env .C) (tables 𝓤 H 𝓜 𝓡 code.env .Λ) #f code.function (code.unfolded 𝓤 H 𝓜 𝓡)
-    (asks part (SaysPart suffixFrom) 𝓤 H (𝓖 .A) (givenOf 𝓤 H 𝓜 𝓖)
+    (asks part SaysSuffix 𝓤 H (𝓖 .A) (givenOf 𝓤 H 𝓜 𝓖)
     (tablesOf 𝓤 H 𝓜 (tables 𝓤 H 𝓜 𝓡 code.env)) #g
-    (cited 𝓤 H (Asks part (SaysPart suffixFrom) 𝓤 H (𝓖 .A)) 𝓜 𝓡 code.env #g
+    (cited 𝓤 H (Asks part SaysSuffix 𝓤 H (𝓖 .A)) 𝓜 𝓡 code.env #g
     g-def.routine code.calls-key·suffix (g-thm.met 𝓤 H 𝓜 𝓖 𝓡)))

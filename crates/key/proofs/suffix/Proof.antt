@@ -1,32 +1,30 @@
--- `key::suffix` meets its contract. Assumes nothing.
-use borrow.Author.Needs.{needs}
-use Rattle.key_layer.proofs.Fitting.{withins}
-use Rattle.key_layer.proofs.Calls.{parts}
-use Rattle.key.proofs.suffix.Statement.{statement}
-use Rattle.key.proofs.suffix.Tie as tie
+-- `key::suffix` meets its contract: the walk of `Parts.antt`, at `inside::suffix`. Assumes nothing.
+use contract.Running.{givenOf, tables, tablesOf}
+use denote.Triple.Spec.{tripleOf}
+use denote.Triple.Table.{entered, cited}
+use Rattle.key_layer.specs.Keys.{suffixFrom}
+use Rattle.key_layer.proofs.inside.refusal_of.Symbol as n-def
+use Rattle.key_layer.proofs.inside.refusal_of.Symbol.{name as #n}
+use Rattle.key_layer.proofs.inside.refusal_of.Met as n-thm
+use Rattle.key_layer.proofs.inside.suffix.Symbol as g-def
+use Rattle.key_layer.proofs.inside.suffix.Symbol.{name as #g}
+use Rattle.key_layer.proofs.inside.suffix.Met as g-thm
+use Rattle.key.specs.Parts.{IsSuffix}
+use Rattle.key.proofs.Told.{suffix-told}
+use Rattle.key.proofs.Parts.{Numbers, Asks, parts}
+use Rattle.key.proofs.suffix.Key.{name as #f}
+use Rattle.key.proofs.suffix as f
+use Rattle.key.proofs.suffix.Statement as stated
+use Rattle.key.proofs.suffix.Code as code
 
-sub-result : tie.Need-sub-result
-sub-result c = search withins
-
-part-result-start : tie.Need-part-result-start
-part-result-start c = search withins
-
-returns : tie.Need-returns
-returns c = (search parts, (search needs, search parts))
-
-returns-2 : tie.Need-returns-2
-returns-2 c = (search parts, (search needs, search parts))
-
-pub suffix-spec : {M : Type 1} → statement M
-suffix-spec =
-    tie.close
-    (tie.spec
-    (λ c κs. search needs)
-    sub-result
-    part-result-start
-    (λ c. search needs)
-    returns
-    (λ c. search needs)
-    (λ c. search needs)
-    (λ c. search needs)
-    returns-2)
+pub suffix-spec : {M : Type 1} → stated.statement M
+unfolding code.routine tablesOf
+suffix-spec 𝓤 H 𝓜 𝓖 𝓡 =
+    entered 𝓤 H (tripleOf 𝓤 H (𝓖 .A) f.signature (f.spec 𝓤 H (𝓖 .A) (𝓜 .mem) (𝓡 .run)))
+    (tables 𝓤 H 𝓜 𝓡 code.env .C) (tables 𝓤 H 𝓜 𝓡 code.env .Λ) #f code.function (code.unfolded 𝓤 H 𝓜 𝓡)
+    (parts suffixFrom IsSuffix suffix-told 𝓤 H (𝓖 .A) (givenOf 𝓤 H 𝓜 𝓖) (𝓜 .mem) (𝓡 .run)
+    (tablesOf 𝓤 H 𝓜 (tables 𝓤 H 𝓜 𝓡 code.env)) #g
+    (cited 𝓤 H (Numbers 𝓤 H (𝓖 .A) (𝓜 .mem) (𝓡 .run)) 𝓜 𝓡 code.env #n
+    n-def.routine code.calls-key-layer·inside·refusal-of (n-thm.met 𝓤 H 𝓜 𝓖 𝓡))
+    (cited 𝓤 H (Asks suffixFrom IsSuffix suffix-told 𝓤 H (𝓖 .A)) 𝓜 𝓡 code.env #g
+    g-def.routine code.calls-key-layer·inside·suffix (g-thm.met 𝓤 H 𝓜 𝓖 𝓡)))

@@ -27,4 +27,5 @@ need-spec =
     (λ c. search counts)
     (λ c κs. search counts)
     (λ c κs. search counts)
+    (λ c κs. search counts)
     (λ c. search counts))

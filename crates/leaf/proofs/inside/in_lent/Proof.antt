@@ -22,4 +22,5 @@ returns-3 c = search lent-outcome
 pub in-lent-spec : {M : Type 1} → statement M
 in-lent-spec =
     tie.close
-    (tie.spec (λ c κs. search needs) returns (λ c κs. search needs) returns-2 scan-requires returns-3)
+    (tie.spec (λ c κs. search needs) (λ c κs. search needs) returns (λ c κs. search needs) (λ c κs. search needs) returns-2
+    scan-requires returns-3)

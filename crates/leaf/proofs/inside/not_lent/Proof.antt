@@ -11,4 +11,4 @@ returns-2 : tie.Need-returns-2
 returns-2 c = search searches
 
 pub not-lent-spec : {M : Type 1} → statement M
-not-lent-spec = tie.close (tie.spec (λ c κs. search needs) returns returns-2)
+not-lent-spec = tie.close (tie.spec (λ c κs. search needs) (λ c κs. search needs) returns (λ c κs. search needs) returns-2)

@@ -11,4 +11,4 @@ returns-2 : tie.Need-returns-2
 returns-2 c = search other-rest
 
 pub unlent-spec : {M : Type 1} → statement M
-unlent-spec = tie.close (tie.spec (λ c κs. search needs) returns (λ c κs. search needs) returns-2)
+unlent-spec = tie.close (tie.spec (λ c κs. search needs) (λ c κs. search needs) returns (λ c κs. search needs) returns-2)

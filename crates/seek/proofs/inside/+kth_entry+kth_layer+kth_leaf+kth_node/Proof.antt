@@ -22,6 +22,7 @@ use Rattle.seek.proofs.inside.child_at.Reads as child-at-reads
 use Rattle.seek.proofs.inside.children_of.Reads as children-of-reads
 use Rattle.node_words.proofs.inside.entry_of.Reads as entry-of-reads
 use Rattle.seek.proofs.inside.height_of.Reads as height-of-reads
+use Rattle.leaf.proofs.inside.size_of.Reads as size-of-reads
 use Rattle.node_words.proofs.inside.slot_of.Reads as slot-of-reads
 use Rattle.node_words.proofs.inside.word_of.Reads as word-of-reads
 use Rattle.order.specs.Lists.{flattened}
@@ -82,6 +83,8 @@ abbrev kth-leaf-calls : ℕ → kth-leaf-lts.Claims
 kth-leaf-calls t = (
   word-of-reads.Asked,
   word-of-reads.Learnt,
+  size-of-reads.Asked,
+  size-of-reads.Learnt,
   slot-of-reads.Asked,
   slot-of-reads.Learnt,
   entry-of-reads.Asked,
@@ -160,6 +163,7 @@ pub +kth-entry+kth-layer+kth-leaf+kth-node-spec : {M : Type 1} → statement M
     kth-leaf.Post
     kth-leaf-Inv-loop
     kth-leaf-μ-loop
+    (λ c κs. search reaches)
     (λ c κs. search reaches)
     (kth-leaf-loop-holds t)
     (λ c κs. search reaches)

@@ -10,6 +10,7 @@ use Rattle.node_words.proofs.inside.entry_of.Reads as entry-of-reads
 use Rattle.seek.proofs.inside.has_key.Reads as has-key-reads
 use Rattle.seek.proofs.inside.number_word.Reads as number-word-reads
 use Rattle.seek.proofs.inside.place_in.Reads as place-in-reads
+use Rattle.leaf.proofs.inside.size_of.Reads as size-of-reads
 use Rattle.node_words.proofs.inside.slot_of.Reads as slot-of-reads
 use Rattle.node_words.proofs.inside.word_of.Reads as word-of-reads
 use Rattle.seek.proofs.Seeks.{seeks, seek-down}
@@ -31,6 +32,8 @@ calls t = (
   place-in-reads.Learnt,
   word-of-reads.Asked,
   word-of-reads.Learnt,
+  size-of-reads.Asked,
+  size-of-reads.Learnt,
   slot-of-reads.Asked,
   slot-of-reads.Learnt,
   entry-of-reads.Asked,
@@ -57,7 +60,7 @@ returns-4 t c = (search seeks, search needs)
 
 returns-5 : (t : ℕ) → seek-lts.Need-returns-5 (calls t) (seek-at t) seek.Post
 returns-5 t c =
-    let s = c .before .before .before .before .before .before .before .before .before .before .before .before .before .before in
+    let s = c .before .before .before .before .before .before .before .before .before .before .before .before .before .before .before in
     (search (seek-down, s .pre .1 .1 .1), c .seek .ensures .1)
 
 pub +seek-spec : {M : Type 1} → statement M
@@ -65,6 +68,7 @@ pub +seek-spec : {M : Type 1} → statement M
     close μ-seek λ t. seek-lts.spec (calls t)
     (seek-at t)
     seek.Post
+    (λ c κs. search needs)
     (λ c κs. search needs)
     (λ c κs. search needs)
     (returns t)

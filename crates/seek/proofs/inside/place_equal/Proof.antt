@@ -33,6 +33,7 @@ place-equal-spec =
     Inv-loop
     μ-loop
     (λ c κs. search downs)
+    (λ c κs. search downs)
     loop-holds
     (λ c κs. search downs)
     (λ c κs. search downs)

@@ -1,8 +1,0 @@
--- `node_words::inside::slot_of` meets its contract. Assumes nothing.
-use borrow.Author.Needs.{needs}
-use Rattle.node_words.proofs.Words.{words}
-use Rattle.node_words.proofs.inside.slot_of.Statement.{statement}
-use Rattle.node_words.proofs.inside.slot_of.Tie as tie
-
-pub slot-of-spec : {M : Type 1} → statement M
-slot-of-spec = tie.close (tie.spec (λ c. search needs) (λ c. search needs) (λ c. search needs) (λ c. search words))

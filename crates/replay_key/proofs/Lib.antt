@@ -1,0 +1,4 @@
+pub mod Fronts
+pub mod Handed
+pub mod Making
+pub mod Passes
