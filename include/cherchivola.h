@@ -5,6 +5,9 @@
  * lent to it is as it was before. Where several refusals apply, the lowest is returned. No call keeps a pointer, and
  * none needs more than its arguments: there is no state behind them.
  *
+ * The calls are in libfirmware.a, which `rt staticlib firmware` writes to target/staticlib. It is code for x86-64 and links
+ * into x86-64 Linux programs only, on whatever machine it was made: not into a program for an Arm processor.
+ *
  * A lent pointer points to a number of its type that nobody else reads or writes during the call, and two pointers of
  * one call point to two numbers.
  */

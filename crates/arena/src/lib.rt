@@ -23,7 +23,7 @@ pub enum Cleared {
     Refused(Refusal),
 }
 
-// Whether the lent lengths are right, and N and C.
+// How many nodes and cells the lent slices have room for; refusal 10 where their lengths are wrong.
 pub fn lengths(nodes: &[u64], cells: &[u64], bytes: &[u8]) -> Measured
     ensures { λ r. ⌜ saidMeasured r ≡ measured (length (now (nodes .entry))) (length (now (cells .entry))) (length (now (bytes .entry))) ⌝ }
 {

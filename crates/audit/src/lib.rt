@@ -45,7 +45,7 @@ pub fn is_tree(nodes: &[u64], cells: &[u64], bytes: &[u8]) -> bool
     rest_free(nodes, cells, bytes, &seen, n, c)
 }
 
-// Everything not seen is free.
+// Whether everything that the walk has not seen is free.
 fn rest_free(nodes: &[u64], cells: &[u64], bytes: &[u8], seen: &[u8], n: usize, c: usize) -> bool
     requires { ⌜ LentAll (now nodes) (now cells) (now bytes) (now seen) n c ⌝ }
     ensures { λ r. ⌜ r ≡ restFree (memory (now (nodes .entry)) (now (cells .entry)) (now (bytes .entry))) (now (seen .entry)) ⌝ }
@@ -56,12 +56,13 @@ fn rest_free(nodes: &[u64], cells: &[u64], bytes: &[u8], seen: &[u8], n: usize, 
     cells_free(cells, bytes, seen, c)
 }
 
-// Each of the n nodes was seen or is free.
+// Whether each of the n nodes was seen or is free.
 fn nodes_free(nodes: &[u64], seen: &[u8], n: usize) -> bool
     requires { ⌜ (nodeStart n ≤ length (now nodes)) × (2 * n ≤ length (now seen)) ⌝ }
     ensures { λ r. ⌜ r ≡ allBelow n (nodeLeft (now (nodes .entry)) (now (seen .entry))) ⌝ }
 {
     let mut k: usize = 0;
+    // Every node below k was seen or is free.
     while k < n {
         if seen[2 * k] == 1 {
             k += 1;
@@ -75,12 +76,13 @@ fn nodes_free(nodes: &[u64], seen: &[u8], n: usize) -> bool
     true
 }
 
-// Each of the c cells was seen or is free.
+// Whether each of the c cells was seen or is free.
 fn cells_free(cells: &[u64], bytes: &[u8], seen: &[u8], c: usize) -> bool
     requires { ⌜ (cellStart c ≤ length (now cells)) × (keyStart c ≤ length (now bytes)) × (2 * c ≤ length (now seen)) ⌝ }
     ensures { λ r. ⌜ r ≡ allBelow c (cellLeft (now (cells .entry)) (now (bytes .entry)) (now (seen .entry))) ⌝ }
 {
     let mut k: usize = 0;
+    // Every cell below k was seen or is free.
     while k < c {
         if seen[2 * k + 1] == 1 {
             k += 1;

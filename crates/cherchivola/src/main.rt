@@ -6,6 +6,7 @@ fn say_output_failed() {
     io::write_all(2, b"cherchivola: output failed\n");
 }
 
+// Reads the input part by part, and answers and writes each line of it. No input is so long that the count of parts ends it.
 fn main() {
     let mut nodes = [0u64; 3010];
     let mut cells = [0u64; 256];
@@ -16,6 +17,7 @@ fn main() {
     index::clear(&mut nodes, &mut cells, &mut bytes);
     let mut kept = 0;
     let mut parts: u64 = 0;
+    // Of the line that has not ended the first `kept` bytes stand in `line`, 1,201 at most.
     while parts < u64::MAX {
         let n = io::count(libc::read(0, &mut part), &part);
         if n == 0 {

@@ -49,6 +49,7 @@ pub fn answer_part(
     let mut from = 0;
     let mut held = kept;
     let mut answered = 0;
+    // All lines that end before `from` are answered and written; `held` bytes are kept of the line that goes on there.
     while from < part.len() {
         let taken = line_input::inside::take_line(&part[from..], line, held);
         from += taken.used;

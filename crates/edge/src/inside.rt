@@ -6,7 +6,7 @@ ghost use lib.Dec.{leb, ltb};
 ghost use Rattle.edge.specs.Edges.{leftOf, rightOf};
 use crate::Edge;
 
-// An ikey lies at or above the left edge.
+// Whether an ikey lies at or above the left edge.
 pub fn is_from(low: Edge, ikey: u64) -> bool
     ensures { λ r. ⌜ r ≡ leb (leftOf low) (suc ikey) ⌝ }
 {
@@ -16,7 +16,7 @@ pub fn is_from(low: Edge, ikey: u64) -> bool
     low.ikey <= ikey
 }
 
-// An ikey lies below the right edge.
+// Whether an ikey lies below the right edge.
 pub fn is_before(high: Edge, ikey: u64) -> bool
     ensures { λ r. ⌜ r ≡ ltb (suc ikey) (rightOf high) ⌝ }
 {
@@ -26,7 +26,7 @@ pub fn is_before(high: Edge, ikey: u64) -> bool
     ikey < high.ikey
 }
 
-// An entry's ikey lies at or above the left edge and below the right one.
+// Whether an ikey lies at or above the left edge and below the right one.
 pub fn is_within(low: Edge, high: Edge, ikey: u64) -> bool
     ensures { λ r. ⌜ r ≡ (leb (leftOf low) (suc ikey) && ltb (suc ikey) (rightOf high)) ⌝ }
 {
@@ -36,7 +36,7 @@ pub fn is_within(low: Edge, high: Edge, ikey: u64) -> bool
     is_before(high, ikey)
 }
 
-// The left edge lies strictly below the right one.
+// Whether the left edge lies strictly below the right one.
 pub fn is_between(low: Edge, high: Edge) -> bool
     ensures { λ r. ⌜ r ≡ ltb (leftOf low) (rightOf high) ⌝ }
 {

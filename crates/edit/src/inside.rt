@@ -28,7 +28,7 @@ use permuter::Made;
 
 // ---- words
 
-// A word of memory, if there is such a word.
+// Writes a word of memory; nothing where there is no such word.
 pub fn put_at(words: &mut [u64], at: usize, w: u64)
     ensures { λ _. ⌜ now (words .exit) ≡ set (now (words .entry)) at w ⌝ }
 {
@@ -51,7 +51,7 @@ pub fn lowest(nodes: &[u64], count: usize) -> usize
 
 // ---- leaves
 
-// The three numbers of an entry into a slot.
+// Writes the three numbers of an entry into a slot of leaf k.
 pub fn put_entry(nodes: &mut [u64], k: usize, slot: usize, e: Entry)
     requires { ⌜ (k < 255) × (slot < 16) ⌝ }
     ensures { λ _. ⌜ now (nodes .exit) ≡ entryPut (now (nodes .entry)) k slot e ⌝ }
@@ -62,7 +62,7 @@ pub fn put_entry(nodes: &mut [u64], k: usize, slot: usize, e: Entry)
     put_at(nodes, at + 32 + slot, e.at);
 }
 
-// An entry less.
+// Takes the entry at position p out of leaf k: its slot is free and zero again.
 pub fn take_entry(nodes: &mut [u64], k: usize, p: usize)
     requires { ⌜ (length (now nodes) ≤ 11987) × (k < 255) × (p < 15) ⌝ }
     ensures { λ _. ⌜ now (nodes .exit) ≡ entryTaken (now (nodes .entry)) k p ⌝ }
@@ -82,7 +82,7 @@ pub fn take_entry(nodes: &mut [u64], k: usize, p: usize)
     );
 }
 
-// The slot word after `remove`, or as it was.
+// The slot word after `remove` at position p; as it was where that is refused.
 fn without(word: u64, p: usize) -> u64
     ensures { λ r. ⌜ r ≡ getD (changed 15 word (remove p) .values) 0 0 ⌝ }
 {
@@ -100,6 +100,7 @@ pub fn place_greater(nodes: &[u64], k: usize, e: Entry) -> usize
     let word = word_of(nodes, k as u64, 1);
     let size = size_of(word);
     let mut i: usize = 0;
+    // No entry before position i is greater.
     while i < size {
         let d = entry_of(nodes, k as u64, slot_of(word, i));
         if leaf::inside::is_less(e, d) {
@@ -119,6 +120,7 @@ pub fn leaf_of(entries: [Entry; 16], from: usize, n: usize) -> Leaf
     let mut classes = [0u64; 15];
     let mut refs = [0u64; 15];
     let mut i: usize = 0;
+    // The first i slots hold the first i of these entries, and all later ones are zero.
     while i < n {
         let e = entries[from + i];
         ikeys[i] = e.ikey;
@@ -135,6 +137,7 @@ pub fn leaf_of(entries: [Entry; 16], from: usize, n: usize) -> Leaf
     }
 }
 
+// The slot word of a leaf with slots 0 to n-1 in use, in order.
 fn sorted_word(n: usize) -> u64
     requires { ⌜ n ≤ 15 ⌝ }
     ensures { λ r. ⌜ r ≡ getD (madeSorted 15 n .values) 0 0 ⌝ }
@@ -145,7 +148,7 @@ fn sorted_word(n: usize) -> u64
     word
 }
 
-// The entries at all fifteen positions and one more at a position.
+// The entries at all fifteen positions of leaf k, with one more put in at position p.
 pub fn sixteen(nodes: &[u64], k: usize, p: usize, e: Entry) -> [Entry; 16]
     requires { ⌜ (length (now nodes) ≤ 11987) × (k < 255) × (p ≤ 15) ⌝ }
     ensures { λ r. ⌜ r ≡ take p (fifteenAt (now (nodes .entry)) k) ++ e ∷ drop p (fifteenAt (now (nodes .entry)) k) ⌝ }
@@ -157,6 +160,7 @@ pub fn sixteen(nodes: &[u64], k: usize, p: usize, e: Entry) -> [Entry; 16]
         at: 0,
     }; 16];
     let mut i: usize = 0;
+    // The first i of the sixteen are in place.
     while i < 16 {
         if i < p {
             all[i] = entry_of(nodes, k as u64, slot_of(word, i));
@@ -179,6 +183,7 @@ pub fn cut(entries: [Entry; 16]) -> usize
     ensures { λ r. ⌜ (r ≡ cutOf entries) × (1 ≤ r) × (r ≤ 15) ⌝ }
 {
     let mut far: usize = 0;
+    // No cut less than `far` away from 8 has different ikeys on its sides.
     while far < 8 {
         if entries[8 - far - 1].ikey != entries[8 - far].ikey {
             return 8 - far;
@@ -191,7 +196,7 @@ pub fn cut(entries: [Entry; 16]) -> usize
     8
 }
 
-// Sixteen entries in two leaves.
+// Writes sixteen entries to two leaves: k, and on its right the lowest free node.
 pub fn split_leaf(nodes: &mut [u64], count: usize, k: usize, entries: [Entry; 16]) -> Grown
     requires { ⌜ (nodeStart count ≡ length (now nodes)) × (k < count) × (count ≤ 255) ⌝ }
     ensures { λ r. ⌜ (now (nodes .exit), r) ≡ leafSplit (now (nodes .entry)) count k entries ⌝ }
@@ -207,7 +212,7 @@ pub fn split_leaf(nodes: &mut [u64], count: usize, k: usize, entries: [Entry; 16
     }
 }
 
-// An entry more in a leaf, in two if it is full.
+// Adds an entry to leaf k; a full leaf becomes two.
 pub fn grow_leaf(nodes: &mut [u64], count: usize, k: usize, e: Entry) -> Grown
     requires { ⌜ (nodeStart count ≡ length (now nodes)) × (k < count) × (count ≤ 255) ⌝ }
     ensures { λ r. ⌜ (now (nodes .exit), r) ≡ leafGrown (now (nodes .entry)) count k e ⌝ }
@@ -225,6 +230,7 @@ pub fn grow_leaf(nodes: &mut [u64], count: usize, k: usize, e: Entry) -> Grown
 
 // ---- internodes
 
+// Internode k by value.
 pub fn load(nodes: &[u64], k: usize) -> Internode
     requires { ⌜ nodeStart k + 47 ≤ length (now nodes) ⌝ }
     ensures { λ r. ⌜ r ≡ internodeIn (now (nodes .entry)) k ⌝ }
@@ -236,6 +242,7 @@ pub fn load(nodes: &[u64], k: usize) -> Internode
     Internode { n, ikeys, children }
 }
 
+// Writes an internode to node k.
 pub fn store(nodes: &mut [u64], k: usize, x: Internode)
     requires { ⌜ nodeStart k + 47 ≤ length (now nodes) ⌝ }
     ensures { λ _. ⌜ now (nodes .exit) ≡ internodePut (now (nodes .entry)) k x ⌝ }
@@ -252,6 +259,7 @@ pub fn place_of(x: Internode, ikey: u64) -> usize
     ensures { λ r. ⌜ (r ≡ childPlace x ikey) × (r ≤ x .n) ⌝ }
 {
     let mut j = x.n;
+    // All ikeys from j on are above this one.
     while 0 < j {
         if x.ikeys[j - 1] <= ikey {
             return j;
@@ -261,7 +269,7 @@ pub fn place_of(x: Internode, ikey: u64) -> usize
     0
 }
 
-// A full internode with one key more, in two.
+// Writes a full internode with one ikey and child more to two nodes: k, and on its right the lowest free node.
 pub fn split_internode(
     nodes: &mut [u64],
     count: usize,
@@ -286,7 +294,7 @@ pub fn split_internode(
     }
 }
 
-// A child more in an internode, in two if it is full.
+// Adds an ikey, and the child right of it, to internode k; a full one becomes two.
 pub fn grow_internode(nodes: &mut [u64], count: usize, k: usize, ikey: u64, child: u64) -> Grown
     requires { ⌜ (nodeStart count ≡ length (now nodes)) × (k < count) × (count ≤ 255) ⌝ }
     ensures { λ r. ⌜ (now (nodes .exit), r) ≡ internodeGrown (now (nodes .entry)) count k ikey child ⌝ }
@@ -303,7 +311,7 @@ pub fn grow_internode(nodes: &mut [u64], count: usize, k: usize, ikey: u64, chil
     split_internode(nodes, count, k, p, ikey, child)
 }
 
-// An internode over two nodes.
+// The internode over two nodes, with the ikey between them.
 pub fn over_two(left: u64, ikey: u64, right: u64) -> Internode
     ensures { λ r. ⌜ r ≡ overTwo left ikey right ⌝ }
 {

@@ -3,11 +3,11 @@ ghost use mathlib.Core.List.{[], _∷_};
 ghost use Rattle.bank.specs.Calls.{fromValue, setSize, swapFreeSlots, insertFromBack, remove, removeToBack, removeSlot};
 ghost use Rattle.bank.specs.Calls.{exchange, rotate, size, get, back, backAtOffset};
 ghost use Rattle.permuter.specs.Words.{changed, asked, madeSorted, madeEmpty};
-ghost use Rattle.firmware.specs.Crossing.{Crossed};
-use crate::crossing::give_changed;
-use crate::crossing::give_inserted;
-use crate::crossing::give_made;
-use crate::crossing::give_told;
+ghost use Rattle.crossing.specs.Crossing.{Crossed};
+use crossing::give_changed;
+use crossing::give_inserted;
+use crossing::give_made;
+use crossing::give_told;
 
 // The word with no slot in use.
 #[no_mangle]

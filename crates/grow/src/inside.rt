@@ -15,7 +15,7 @@ use node_words::inside::word_of;
 
 // ---- what is needed
 
-// How many nodes an entry more takes in a layer: each full node from the leaf upward, and one for a new root.
+// How many nodes an entry more takes in a layer: one for each full node from the leaf upward, and one for a new root if all are full.
 pub fn need(nodes: &[u64], height: usize, root: u64, ikey: u64) -> usize
     requires { ⌜ (length (now nodes) ≤ 11987) × (height ≤ 255) ⌝ }
     ensures { λ r. ⌜ r ≡ needIn (now (nodes .entry)) height root ikey 1 ⌝ }
@@ -23,6 +23,7 @@ pub fn need(nodes: &[u64], height: usize, root: u64, ikey: u64) -> usize
     let mut n = root;
     let mut h = height;
     let mut taken: usize = 1;
+    // If n is split, `taken` more nodes are needed: one for each full node right above it, and a new root where those reach the root.
     while 0 < h {
         taken = split_too(word_of(nodes, n, 1), taken);
         n = seek::inside::child_for(nodes, n, ikey);
@@ -31,6 +32,7 @@ pub fn need(nodes: &[u64], height: usize, root: u64, ikey: u64) -> usize
     split_too(size_of(word_of(nodes, n, 1)) as u64, taken)
 }
 
+// The nodes needed so far if a node of this size is split too: one more where it is full, else none.
 fn split_too(size: u64, taken: usize) -> usize
     requires { ⌜ taken ≤ 1000 ⌝ }
     ensures { λ r. ⌜ r ≡ splitToo size taken ⌝ }
@@ -48,6 +50,7 @@ pub fn layers(key: &[u8], other: &[u8], links: usize) -> usize
 {
     let mut made: usize = 1;
     let mut at = links;
+    // Both keys go on alike in the layers before `at`, so that `made` layers are made, the one at `at` among them.
     while at < 31 {
         if !both_go_on(key, other, at) {
             return made;
@@ -58,7 +61,7 @@ pub fn layers(key: &[u8], other: &[u8], links: usize) -> usize
     made
 }
 
-// Both keys have the same ikey at a layer, and are longer.
+// Whether both keys have the same ikey at a layer, and are longer.
 pub fn both_go_on(key: &[u8], other: &[u8], links: usize) -> bool
     requires { ⌜ links ≤ 32 ⌝ }
     ensures { λ r. ⌜ r ≡ bothGoOn (now (key .entry)) (now (other .entry)) links ⌝ }
@@ -74,7 +77,7 @@ pub fn both_go_on(key: &[u8], other: &[u8], links: usize) -> bool
 
 // ---- an entry more
 
-// Below a node of this height.
+// Adds an entry to the leaf for it, below a node of this height; tells whether that node became two.
 pub fn grow_node(nodes: &mut [u64], count: usize, height: usize, n: u64, e: Entry) -> Grown
     requires { ⌜ (nodeStart count ≡ length (now nodes)) × (1 ≤ count) × (count ≤ 255) ⌝ }
     ensures { λ r. ⌜ (now (nodes .exit), r) ≡ nodeGrown (now (nodes .entry)) count height n e ⌝ }
@@ -94,7 +97,7 @@ pub fn grow_node(nodes: &mut [u64], count: usize, height: usize, n: u64, e: Entr
     Grown::One
 }
 
-// In the layer whose root's number stands in the word `holder`.
+// Adds an entry to the layer whose root's number stands in the word `holder`; where the root becomes two, a new one goes above them.
 pub fn grow_layer(nodes: &mut [u64], count: usize, holder: usize, root: u64, e: Entry)
     requires { ⌜ (nodeStart count ≡ length (now nodes)) × (1 ≤ count) × (count ≤ 255) ⌝ }
     ensures { λ _. ⌜ now (nodes .exit) ≡ layerGrown (now (nodes .entry)) count holder root e ⌝ }
@@ -139,7 +142,7 @@ fn two_of(a: Entry, b: Entry) -> [Entry; 16]
     all
 }
 
-// A leaf with one link, whose number follows.
+// Writes a leaf with one link to node k; the number of the layer below is filled in later.
 fn put_link(nodes: &mut [u64], k: usize, key: &[u8], links: usize)
     requires { ⌜ (nodeStart k + 47 ≤ length (now nodes)) × (links ≤ 32) ⌝ }
     ensures { λ _. ⌜ now (nodes .exit) ≡ putLeaf (now (nodes .entry)) k (leafWith (linkFor (now (key .entry)) links ∷ [])) ⌝ }
@@ -153,7 +156,7 @@ fn put_link(nodes: &mut [u64], k: usize, key: &[u8], links: usize)
     arena::inside::store_leaf(nodes, k, leaf);
 }
 
-// A leaf with two keys.
+// Writes a leaf with the entries of two keys to node k.
 fn put_both(
     nodes: &mut [u64],
     k: usize,
@@ -174,7 +177,7 @@ fn put_both(
     arena::inside::store_leaf(nodes, k, leaf);
 }
 
-// The layers of a conflict, from a layer on: the number of the first goes into the word `holder`.
+// Makes the layers of a conflict, from a layer on; the number of the first goes into the word `holder`.
 pub fn grow_layers(
     nodes: &mut [u64],
     count: usize,

@@ -7,7 +7,7 @@ use crate::Numbers;
 use key::Made;
 use key::Moved;
 
-// A key at another layer, or where it was.
+// The numbers of a moved key beside 0, or of the key where it was beside the refusal's number.
 pub fn of_moved(answer: Moved) -> Numbers
     ensures { λ r. ⌜ r ≡ numbersIn (saidMoved answer) ⌝ }
 {
@@ -27,7 +27,7 @@ pub fn of_moved(answer: Moved) -> Numbers
     }
 }
 
-// A new key: three zeros where it is refused.
+// The numbers of a new key beside 0, or three zeros beside the refusal's number.
 pub fn of_made(answer: Made) -> Numbers
     ensures { λ r. ⌜ r ≡ numbersIn (saidMade answer) ⌝ }
 {

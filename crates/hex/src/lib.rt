@@ -43,6 +43,7 @@ fn number(text: &[u8], from: usize, digits: usize) -> u64
 {
     let mut value: u64 = 0;
     let mut k: usize = 0;
+    // `value` is the number that the first k digits spell.
     while k < digits {
         value = value * 16 + digit_at(text, from, k);
         k += 1;
@@ -50,38 +51,42 @@ fn number(text: &[u8], from: usize, digits: usize) -> u64
     value
 }
 
-// One digit, two, four, eight, sixteen.
+// The number that one digit spells.
 pub fn one(text: &[u8], from: usize) -> u64
     ensures { λ r. ⌜ (r ≡ hexAt (now (text .entry)) from 1) × (r < 16) ⌝ }
 {
     number(text, from, 1)
 }
 
+// The number that two digits spell.
 pub fn two(text: &[u8], from: usize) -> u64
     ensures { λ r. ⌜ (r ≡ hexAt (now (text .entry)) from 2) × (r < 256) ⌝ }
 {
     number(text, from, 2)
 }
 
+// The number that four digits spell.
 pub fn four(text: &[u8], from: usize) -> u64
     ensures { λ r. ⌜ (r ≡ hexAt (now (text .entry)) from 4) × (r < 65536) ⌝ }
 {
     number(text, from, 4)
 }
 
+// The number that eight digits spell.
 pub fn eight(text: &[u8], from: usize) -> u64
     ensures { λ r. ⌜ (r ≡ hexAt (now (text .entry)) from 8) × (r < 2 ^ 32) ⌝ }
 {
     number(text, from, 8)
 }
 
+// The number that sixteen digits spell.
 pub fn sixteen(text: &[u8], from: usize) -> u64
     ensures { λ r. ⌜ r ≡ hexAt (now (text .entry)) from 16 ⌝ }
 {
     number(text, from, 16)
 }
 
-// Two digits as a byte.
+// The byte that two digits spell.
 pub fn byte(text: &[u8], from: usize) -> u8
     ensures { λ r. ⌜ r ≡ hexAt (now (text .entry)) from 2 ⌝ }
 {

@@ -6,7 +6,7 @@ ghost use Rattle.arena.specs.Layout.{markAt, frameAt};
 ghost use Rattle.arena.specs.Memory.{cellCount};
 use crate::Listed;
 
-// A cell, the length of its key, its frame number.
+// What k-th tells of a cell: its number, the length of its key, its frame number; 0 for what lent memory does not have.
 pub(crate) fn entry_at(cells: &[u64], cell: u64) -> Listed
     requires { ⌜ length (now cells) ≡ cellCount (length (now cells)) * 2 ⌝ }
     ensures { λ r. ⌜ r ≡ Listed.Entry cell (markAt (now (cells .entry)) cell - 1) (frameAt (now (cells .entry)) cell) ⌝ }

@@ -8,13 +8,14 @@ ghost use Rattle.internode_inserts.specs.Split.{shifted, nodeOf, splitOf
 use crate::Split;
 use internode_places::Internode;
 
-// Key p and child p+1 are written, and the later ones move up.
+// Writes ikey p and child p+1, after all later ones have moved up by one.
 pub fn insert(mut node: Internode, p: usize, ikey: u64, child: u64) -> Internode
     requires { ⌜ (node .n < 15) × (p ≤ node .n) ⌝ }
     ensures { λ r. ⌜ r ≡ inserted node p ikey child ⌝ }
 {
     let n = node.n;
     let mut j = n;
+    // All ikeys from j on, and the children right of them, have moved up by one.
     while p < j {
         let k = node.ikeys[j - 1];
         let c = node.children[j];
@@ -28,7 +29,7 @@ pub fn insert(mut node: Internode, p: usize, ikey: u64, child: u64) -> Internode
     node
 }
 
-// The ikeys and the children right of them, so many from one place of a node to a place of another.
+// Copies so many ikeys, and the children right of them, from place `at` of one node to place p of another.
 pub fn shift_from(
     mut node: Internode,
     p: usize,
@@ -40,6 +41,7 @@ pub fn shift_from(
     ensures { λ r. ⌜ r ≡ shifted node p src at count ⌝ }
 {
     let mut i: usize = 0;
+    // The first i of them are copied.
     while i < count {
         let k = src.ikeys[at + i];
         let c = src.children[at + 1 + i];

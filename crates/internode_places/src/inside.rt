@@ -7,7 +7,7 @@ ghost use Rattle.internode_places.specs.Lists.{rising, insertedAt};
 ghost use Rattle.internode_places.specs.Node.{keysOf, good, insertPosition, childPlace};
 use crate::Internode;
 
-// Refusal 3: n is at most 15, and the n ikeys are strictly rising.
+// Whether n is at most 15 and the n ikeys strictly rise; refusal 3 where not.
 pub fn is_good(node: Internode) -> bool
     ensures { λ r. ⌜ r ≡ good node ⌝ }
 {
@@ -16,6 +16,7 @@ pub fn is_good(node: Internode) -> bool
         return false;
     }
     let mut i: usize = 1;
+    // The first i ikeys strictly rise.
     while i < n {
         if node.ikeys[i] <= node.ikeys[i - 1] {
             return false;
@@ -25,13 +26,14 @@ pub fn is_good(node: Internode) -> bool
     true
 }
 
-// The first ikey not below the target, or n.
+// The place of the first ikey not below the target, or n.
 pub fn insert_position(node: Internode, target: u64) -> usize
     requires { ⌜ node .n ≤ 15 ⌝ }
     ensures { λ r. ⌜ r ≡ insertPosition node target ⌝ }
 {
     let n = node.n;
     let mut i: usize = 0;
+    // The first i ikeys are below the target.
     while i < n {
         if target <= node.ikeys[i] {
             return i;
@@ -48,6 +50,7 @@ pub fn child_place(node: Internode, target: u64) -> usize
 {
     let n = node.n;
     let mut i: usize = 0;
+    // The first i ikeys are not above the target.
     while i < n {
         if target < node.ikeys[i] {
             return i;
@@ -57,7 +60,7 @@ pub fn child_place(node: Internode, target: u64) -> usize
     i
 }
 
-// Refusal 9: with the ikey at p the order stays strict.
+// Whether the order stays strict with the ikey at p; refusal 9 where not.
 pub fn keeps_order(node: Internode, p: usize, ikey: u64) -> bool
     requires { ⌜ (good node ≡ true) × (p ≤ node .n) ⌝ }
     ensures { λ r. ⌜ r ≡ rising (insertedAt p ikey (keysOf node)) ⌝ }

@@ -18,7 +18,7 @@ use crate::Word;
 use ikey::Ordering;
 use refusal::Refusal;
 
-// The difference, or 0.
+// The difference, or 0 where it would be negative.
 pub fn minus(a: usize, b: usize) -> usize
     ensures { λ r. ⌜ r ≡ a - b ⌝ }
 {
@@ -61,7 +61,7 @@ pub fn layer(bytes: &[u8], shift_count: usize) -> Layer
     }
 }
 
-// That many shifts leave a byte, or there is none.
+// Whether that many shifts leave a byte; always so for none.
 fn is_reached(bytes: &[u8], shift_count: usize) -> bool
     ensures { λ r. ⌜ r ≡ reached (now (bytes .entry)) «shift_count» ⌝ }
 {
@@ -101,8 +101,9 @@ pub fn is_shiftable(bytes: &[u8], shift_count: usize, by: usize) -> bool
     by < left(bytes, shift_count)
 }
 
-// What a key is asked, with the answer for one that fits.
+// ---- what a key is asked: the answer for one that fits is handed in
 
+// Answers a length, a count or an offset; refuses a key that does not fit.
 pub fn asked_count(
     bytes: &[u8],
     ikey: u64,
@@ -125,6 +126,7 @@ pub fn asked_count(
     )
 }
 
+// Answers an ikey; refuses a key that does not fit.
 pub fn asked_word(bytes: &[u8], ikey: u64, shift_count: usize, suffix_start: usize, w: u64) -> Word
     ensures { λ r. ⌜ saidWord r ≡ asked (now (bytes .entry)) ikey «shift_count» «suffix_start» (w ∷ []) ⌝ }
 {
@@ -141,6 +143,7 @@ pub fn asked_word(bytes: &[u8], ikey: u64, shift_count: usize, suffix_start: usi
     )
 }
 
+// Answers whether something is so; refuses a key that does not fit.
 pub fn asked_told(bytes: &[u8], ikey: u64, shift_count: usize, suffix_start: usize, t: bool) -> Told
     ensures { λ r. ⌜ saidTold r ≡ asked (now (bytes .entry)) ikey «shift_count» «suffix_start» (truth t ∷ []) ⌝ }
 {
@@ -157,6 +160,7 @@ pub fn asked_told(bytes: &[u8], ikey: u64, shift_count: usize, suffix_start: usi
     )
 }
 
+// Answers how the key stands to another; refuses a key that does not fit.
 pub fn asked_order(
     bytes: &[u8],
     ikey: u64,
@@ -179,8 +183,9 @@ pub fn asked_order(
     )
 }
 
-// The refusals of a move: the numbers go back as they came.
+// ---- the refusals of a move: the numbers go back as they came
 
+// Refuses a move with 7: the key does not fit.
 pub fn unfit(ikey: u64, shift_count: usize, suffix_start: usize) -> Moved
     ensures { λ r. ⌜ saidMoved r ≡ refused Key (ikey ∷ «shift_count» ∷ «suffix_start» ∷ []) ⌝ }
 {
@@ -194,6 +199,7 @@ pub fn unfit(ikey: u64, shift_count: usize, suffix_start: usize) -> Moved
     )
 }
 
+// Refuses a move with 8: there is no such layer.
 pub fn no_shift(ikey: u64, shift_count: usize, suffix_start: usize) -> Moved
     ensures { λ r. ⌜ saidMoved r ≡ refused Shift (ikey ∷ «shift_count» ∷ «suffix_start» ∷ []) ⌝ }
 {
@@ -207,7 +213,7 @@ pub fn no_shift(ikey: u64, shift_count: usize, suffix_start: usize) -> Moved
     )
 }
 
-// The parts of the caller's bytes. No enum holds a slice, so the number of the refusal is asked for by itself.
+// ---- the parts of the caller's bytes: no enum holds a slice, so the number of the refusal is asked for by itself
 
 // The number of a key's refusal: 0 where it fits.
 pub fn refusal_of(bytes: &[u8], ikey: u64, shift_count: usize, suffix_start: usize) -> u64

@@ -95,6 +95,7 @@ pub fn scan(
     let size = size_of(word);
     let length = key::inside::left(key, shift_count);
     let mut i: usize = 0;
+    // The key is greater than every entry before position i.
     while i < size {
         let slot = slot_at(word, i);
         let e = entries[slot];

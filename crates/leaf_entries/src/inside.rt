@@ -16,7 +16,7 @@ use nibbles::inside::nibble;
 pub use nibbles::inside::size_of;
 use permuter::Changed;
 
-// The rule of a leaf's slot word.
+// Whether a leaf's slot word is valid, at width 15.
 pub fn is_valid(word: u64) -> bool
     ensures { λ r. ⌜ r ≡ validWord 15 word ⌝ }
 {
@@ -42,7 +42,7 @@ pub fn slot_at(word: u64, i: usize) -> usize
     slot_of(word, i)
 }
 
-// An entry of the kind that a leaf holds.
+// Whether an entry is of the kind that a leaf holds: a class of 0 to 10, and a cell in use unless it is a link.
 pub fn is_of_kind(cells: &[u64], e: Entry) -> bool
     ensures { λ r. ⌜ r ≡ ofKind (now (cells .entry)) e ⌝ }
 {
@@ -55,13 +55,14 @@ pub fn is_of_kind(cells: &[u64], e: Entry) -> bool
     is_cell(cells, e.at)
 }
 
-// Every entry in use is of the kind that a leaf holds.
+// Whether every entry in use is of the kind that a leaf holds.
 pub fn are_of_kind(word: u64, entries: [Entry; 15], cells: &[u64]) -> bool
     requires { ⌜ validWord 15 word ≡ true ⌝ }
     ensures { λ r. ⌜ r ≡ every (ofKind (now (cells .entry))) (inOrder word entries) ⌝ }
 {
     let size = size_of(word);
     let mut i: usize = 0;
+    // The entries before position i are of that kind.
     while i < size {
         let slot = slot_at(word, i);
         let e = entries[slot];
@@ -73,14 +74,14 @@ pub fn are_of_kind(word: u64, entries: [Entry; 15], cells: &[u64]) -> bool
     true
 }
 
-// An ikey and a length against an entry, at one layer.
+// How an ikey and a length stand to an entry, at one layer.
 pub fn compare(ikey: u64, length: usize, e: Entry) -> Ordering
     ensures { λ r. ⌜ orderOf r ≡ against ikey (classOf length) e ⌝ }
 {
     ikey::inside::at_layer(ikey, length, e.ikey, e.class as usize)
 }
 
-// The first entry is less than the second.
+// Whether the first entry is less than the second.
 pub fn is_less(e: Entry, d: Entry) -> bool
     ensures { λ r. ⌜ r ≡ less e d ⌝ }
 {
@@ -92,13 +93,14 @@ pub fn is_less(e: Entry, d: Entry) -> bool
     }
 }
 
-// The entries in use are strictly rising.
+// Whether the entries in use strictly rise.
 pub fn are_rising(word: u64, entries: [Entry; 15]) -> bool
     requires { ⌜ validWord 15 word ≡ true ⌝ }
     ensures { λ r. ⌜ r ≡ rising (inOrder word entries) ⌝ }
 {
     let size = size_of(word);
     let mut i: usize = 1;
+    // The entries before position i strictly rise.
     while i < size {
         let before = slot_at(word, i - 1);
         let slot = slot_at(word, i);
@@ -112,7 +114,7 @@ pub fn are_rising(word: u64, entries: [Entry; 15]) -> bool
     true
 }
 
-// The entries in use are as a leaf holds them.
+// Whether the entries in use are as a leaf holds them: of its kind, and strictly rising.
 pub fn are_good(word: u64, entries: [Entry; 15], cells: &[u64]) -> bool
     requires { ⌜ validWord 15 word ≡ true ⌝ }
     ensures { λ r. ⌜ r ≡ goodEntries (now (cells .entry)) (inOrder word entries) ⌝ }

@@ -6,7 +6,7 @@ ghost use lib.ListN.{length, drop};
 ghost use Rattle.lent_cells.specs.Cells.{lentRight, Lent, cellRight, Cell, storedSuffix, sameBytes};
 use ikey::Ordering;
 
-// The rule of the lent lengths.
+// Whether the lent lengths are right: 1 to 255 cells of two words, and 256 bytes for each.
 pub fn are_lent(cells: &[u64], bytes: &[u8]) -> bool
     ensures { λ r. ⌜ r ≡ lentRight (now (cells .entry)) (now (bytes .entry)) ⌝ }
 {
@@ -23,7 +23,7 @@ pub fn are_lent(cells: &[u64], bytes: &[u8]) -> bool
     bytes.len() == 256 * (n / 2)
 }
 
-// A cell that an entry may have.
+// Whether a number is that of a cell that an entry may have: one that holds a key.
 pub fn is_cell(cells: &[u64], cell: u64) -> bool
     ensures { λ r. ⌜ r ≡ cellRight (now (cells .entry)) cell ⌝ }
 {
@@ -38,6 +38,7 @@ pub fn is_cell(cells: &[u64], cell: u64) -> bool
     length <= 257
 }
 
+// The lesser of two numbers.
 fn lesser(a: usize, b: usize) -> usize
     ensures { λ r. ⌜ r ≡ min a b ⌝ }
 {

@@ -39,6 +39,7 @@ pub enum Lowest {
 
 // ---- nodes
 
+// Writes a leaf to node k: its kind, its slot word and its three columns.
 pub fn store_leaf(nodes: &mut [u64], k: usize, leaf: Leaf)
     requires { ⌜ nodeStart k + 47 ≤ length (now nodes) ⌝ }
     ensures { λ _. ⌜ now (nodes .exit) ≡ putLeaf (now (nodes .entry)) k leaf ⌝ }
@@ -55,6 +56,7 @@ pub fn store_leaf(nodes: &mut [u64], k: usize, leaf: Leaf)
     put15(nodes, at + 32, refs);
 }
 
+// Internode k by value.
 pub fn load_internode(nodes: &[u64], k: usize) -> Internode
     requires { ⌜ nodeStart k + 47 ≤ length (now nodes) ⌝ }
     ensures { λ r. ⌜ r ≡ internodeAt (now (nodes .entry)) k ⌝ }
@@ -66,6 +68,7 @@ pub fn load_internode(nodes: &[u64], k: usize) -> Internode
     Internode { n, ikeys, children }
 }
 
+// Writes an internode to node k, with zeros behind the children.
 pub fn store_internode(nodes: &mut [u64], k: usize, x: Internode)
     requires { ⌜ nodeStart k + 47 ≤ length (now nodes) ⌝ }
     ensures { λ _. ⌜ now (nodes .exit) ≡ putInternode (now (nodes .entry)) k x ⌝ }
@@ -81,6 +84,7 @@ pub fn store_internode(nodes: &mut [u64], k: usize, x: Internode)
     zero_words(nodes, at + 33, 14);
 }
 
+// Makes node k free: all its words are zero.
 pub fn free_node(nodes: &mut [u64], k: usize)
     requires { ⌜ nodeStart k + 47 ≤ length (now nodes) ⌝ }
     ensures { λ _. ⌜ now (nodes .exit) ≡ freedNode (now (nodes .entry)) k ⌝ }
@@ -98,6 +102,7 @@ pub fn mark(cells: &[u64], k: usize) -> u64
     cells[k * 2]
 }
 
+// The frame number in cell k.
 pub fn frame(cells: &[u64], k: usize) -> u64
     requires { ⌜ cellStart k + 2 ≤ length (now cells) ⌝ }
     ensures { λ r. ⌜ r ≡ frameAt (now (cells .entry)) k ⌝ }
@@ -105,7 +110,7 @@ pub fn frame(cells: &[u64], k: usize) -> u64
     cells[k * 2 + 1]
 }
 
-// A key and its frame into cell k, with zeros behind the key.
+// Writes a key and its frame number to cell k, with zeros behind the key.
 pub fn store_cell(cells: &mut [u64], bytes: &mut [u8], k: usize, key: &[u8], frame: u64)
     requires { ⌜ (cellStart k + 2 ≤ length (now cells)) × (keyStart k + 256 ≤ length (now bytes)) × (length (now key) ≤ 256) ⌝ }
     ensures { λ _. ⌜ (now (cells .exit) ≡ putCell (now (cells .entry)) k (length (now (key .entry))) frame) × (now (bytes .exit) ≡ putKey (now (bytes .entry)) k (now (key .entry))) ⌝ }
@@ -117,6 +122,7 @@ pub fn store_cell(cells: &mut [u64], bytes: &mut [u8], k: usize, key: &[u8], fra
     zero_bytes(bytes, k * 256 + len, 256 - len);
 }
 
+// Makes cell k free: its words and bytes are zero.
 pub fn free_cell(cells: &mut [u64], bytes: &mut [u8], k: usize)
     requires { ⌜ (cellStart k + 2 ≤ length (now cells)) × (keyStart k + 256 ≤ length (now bytes)) ⌝ }
     ensures { λ _. ⌜ (now (cells .exit) ≡ freedCell (now (cells .entry)) k) × (now (bytes .exit) ≡ freedKey (now (bytes .entry)) k) ⌝ }
@@ -141,6 +147,7 @@ pub fn lowest_zero(words: &[u64], start: usize, step: usize, n: usize) -> Lowest
     ensures { λ r. ⌜ r ≡ lowest (frees (every start step) (now (words .entry)) n) ⌝ }
 {
     let mut i = 0;
+    // No k below i has a 0 there.
     while i < n {
         if words[start + i * step] == 0 {
             return Lowest::At(i);
@@ -150,13 +157,14 @@ pub fn lowest_zero(words: &[u64], start: usize, step: usize, n: usize) -> Lowest
     Lowest::Nothing
 }
 
-// How many k below n have a 0 there.
+// How many k below n have a 0 at start + k * step.
 pub fn count_zeros(words: &[u64], start: usize, step: usize, n: usize) -> usize
     requires { ⌜ (0 < step) × (every start step n ≤ length (now words)) ⌝ }
     ensures { λ r. ⌜ r ≡ length (frees (every start step) (now (words .entry)) n) ⌝ }
 {
     let mut found = 0;
     let mut i = 0;
+    // `found` of the first i have a 0.
     while i < n {
         if words[start + i * step] == 0 {
             found += 1;
@@ -184,7 +192,7 @@ pub fn free_nodes(nodes: &[u64], n: usize) -> usize
     count_zeros(nodes, 2, 47, n)
 }
 
-// The same for n cells.
+// The lowest free number of n cells.
 pub fn lowest_free_cell(cells: &[u64], n: usize) -> Lowest
     requires { ⌜ cellStart n ≤ length (now cells) ⌝ }
     ensures { λ r. ⌜ r ≡ lowest (freeCells (now (cells .entry)) n) ⌝ }
@@ -192,6 +200,7 @@ pub fn lowest_free_cell(cells: &[u64], n: usize) -> Lowest
     lowest_zero(cells, 0, 2, n)
 }
 
+// How many of n cells are free.
 pub fn free_cells(cells: &[u64], n: usize) -> usize
     requires { ⌜ cellStart n ≤ length (now cells) ⌝ }
     ensures { λ r. ⌜ r ≡ length (freeCells (now (cells .entry)) n) ⌝ }

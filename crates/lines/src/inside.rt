@@ -20,7 +20,7 @@ use index::Removed;
 use refusal::Refusal;
 use text::inside::Line;
 
-// `refused N`
+// Prints `refused` and the number of the refusal.
 fn refused(out: &mut [u8], why: Refusal) -> usize
     requires { ⌜ 100 ≤ length (now out) ⌝ }
     ensures { λ r. ⌜ Typed (now (out .entry)) 0 (refusedLine (numberOf why)) r (now (out .exit)) ⌝ }
@@ -77,6 +77,7 @@ fn count(nodes: &[u64], cells: &[u64], bytes: &[u8], most: u64) -> u64
     ensures { λ r. ⌜ r ≡ length (inKeyOrder (memory (now (nodes .entry)) (now (cells .entry)) (now (bytes .entry)))) ⌝ }
 {
     let mut k: u64 = 0;
+    // There are k entries or more.
     while k < most {
         let answer = index::kth(nodes, cells, bytes, k);
         if let Listed::Refused(_) = answer {
@@ -111,6 +112,7 @@ fn entries(nodes: &[u64], cells: &[u64], bytes: &[u8], n: u64, out: &mut [u8], a
 {
     let mut next = at;
     let mut k: u64 = 0;
+    // The lines of the first k entries are printed, up to the place `next`.
     while k < n {
         let answer = index::kth(nodes, cells, bytes, k);
         if let Listed::Entry {
@@ -140,7 +142,7 @@ fn list(nodes: &[u64], cells: &[u64], bytes: &[u8], out: &mut [u8]) -> usize
     entries(nodes, cells, bytes, n, out, next)
 }
 
-// One line without its line feed.
+// Answers one line, without its line feed: carries it out, prints the answer, and tells its length.
 pub fn answer(
     nodes: &mut [u64],
     cells: &mut [u64],

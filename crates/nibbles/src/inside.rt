@@ -56,7 +56,7 @@ pub fn size_of(word: u64) -> usize
     (word & 15) as usize
 }
 
-// The sixteen nibbles are 0 to 15, once each: sixteen marks, and none is missing. A nibble is marked with two bits of the next
+// Whether the sixteen nibbles are 0 to 15, once each: sixteen marks, and none is missing. A nibble is marked with two bits of the next
 // one above it, which spares a mask; the four copies of the marks are laid over each other at the end.
 pub fn each_once(x: u64) -> bool
     ensures { λ r. ⌜ r ≡ eachOnce (nibbles 16 x) ⌝ }
@@ -64,6 +64,7 @@ pub fn each_once(x: u64) -> bool
     let mut marks: u64 = 0;
     let mut rest = x;
     let mut k: usize = 0;
+    // The first k nibbles are marked, and `rest` has the others.
     while k < 16 {
         marks = marks | (1u64 << (rest & 63));
         rest = rest >> 4;
@@ -74,7 +75,7 @@ pub fn each_once(x: u64) -> bool
     (quarters & 0xFFFF) == 0xFFFF
 }
 
-// The rule of a valid word. The places above the width are filled with their own numbers, so that one test fits every width.
+// Whether a word is valid. The places above the width are filled with their own numbers, so that one test fits every width.
 pub fn valid(word: u64, width: usize) -> bool
     requires { ⌜ width ≤ 15 ⌝ }
     ensures { λ r. ⌜ r ≡ validWord width word ⌝ }
@@ -89,7 +90,7 @@ pub fn valid(word: u64, width: usize) -> bool
     each_once(join(slots, high(RISING, width), width))
 }
 
-// Refusals 1 and 2.
+// Whether a word may be used at its width: refusal 1 for the width, 2 for the word.
 pub fn judge(word: u64, width: usize) -> Verdict
     ensures { λ r. ⌜ r ≡ judged width word ⌝ }
 {

@@ -7,7 +7,7 @@ ghost use lib.ListN.{length};
 ghost use Rattle.page.specs.Page.{Typed};
 ghost use Rattle.page.specs.Shown.{decimal as Shown·decimal, hexOf, hexDigit, keyShown, okLine, badLine, refusedLine, numberLine, headerLine, entryLine};
 
-// Bytes as they are.
+// Appends bytes as they are.
 pub fn append(out: &mut [u8], at: usize, text: &[u8]) -> usize
     requires { ⌜ at + length (now text) ≤ length (now out) ⌝ }
     ensures { λ r. ⌜ Typed (now (out .entry)) at (now (text .entry)) r (now (out .exit)) ⌝ }
@@ -16,7 +16,7 @@ pub fn append(out: &mut [u8], at: usize, text: &[u8]) -> usize
     at + text.len()
 }
 
-// One byte.
+// Appends one byte.
 pub fn append_byte(out: &mut [u8], at: usize, b: u8) -> usize
     requires { ⌜ at + 1 ≤ length (now out) ⌝ }
     ensures { λ r. ⌜ Typed (now (out .entry)) at (b ∷ []) r (now (out .exit)) ⌝ }
@@ -25,7 +25,7 @@ pub fn append_byte(out: &mut [u8], at: usize, b: u8) -> usize
     at + 1
 }
 
-// A number in decimal.
+// Appends a number in decimal.
 pub fn decimal(out: &mut [u8], at: usize, n: u64) -> usize
     requires { ⌜ at + length (Shown·decimal n) ≤ length (now out) ⌝ }
     ensures { λ r. ⌜ Typed (now (out .entry)) at (Shown·decimal n) r (now (out .exit)) ⌝ }
@@ -37,7 +37,7 @@ pub fn decimal(out: &mut [u8], at: usize, n: u64) -> usize
     append_byte(out, next, b'0' + (n % 10) as u8)
 }
 
-// One hex digit.
+// The lower-case hex digit of a number below 16.
 fn hex_digit(n: u8) -> u8
     requires { ⌜ n < 16 ⌝ }
     ensures { λ r. ⌜ r ≡ hexDigit n ⌝ }
@@ -45,13 +45,14 @@ fn hex_digit(n: u8) -> u8
     if n < 10 { b'0' + n } else { b'a' - 10 + n }
 }
 
-// Two hex digits for each byte.
+// Appends two hex digits for each byte.
 fn hex(out: &mut [u8], at: usize, key: &[u8]) -> usize
     requires { ⌜ at + length (hexOf (now key)) ≤ length (now out) ⌝ }
     ensures { λ r. ⌜ Typed (now (out .entry)) at (hexOf (now (key .entry))) r (now (out .exit)) ⌝ }
 {
     let mut next = at;
     let mut i = 0;
+    // The digits of the first i bytes are written, up to the place `next`.
     while i < key.len() {
         let b = key[i];
         next = append_byte(out, next, hex_digit(b / 16));
@@ -61,7 +62,7 @@ fn hex(out: &mut [u8], at: usize, key: &[u8]) -> usize
     next
 }
 
-// A key: `-` where it is empty.
+// Appends a key in hex, or `-` where it is empty.
 pub fn key(out: &mut [u8], at: usize, key: &[u8]) -> usize
     requires { ⌜ at + length (keyShown (now key)) ≤ length (now out) ⌝ }
     ensures { λ r. ⌜ Typed (now (out .entry)) at (keyShown (now (key .entry))) r (now (out .exit)) ⌝ }
@@ -72,7 +73,7 @@ pub fn key(out: &mut [u8], at: usize, key: &[u8]) -> usize
     hex(out, at, key)
 }
 
-// `ok`
+// Appends the line `ok`.
 pub fn ok(out: &mut [u8], at: usize) -> usize
     requires { ⌜ at + 3 ≤ length (now out) ⌝ }
     ensures { λ r. ⌜ Typed (now (out .entry)) at okLine r (now (out .exit)) ⌝ }
@@ -80,7 +81,7 @@ pub fn ok(out: &mut [u8], at: usize) -> usize
     append(out, at, b"ok\n")
 }
 
-// `bad line`
+// Appends the line `bad line`.
 pub fn bad_line(out: &mut [u8], at: usize) -> usize
     requires { ⌜ at + 9 ≤ length (now out) ⌝ }
     ensures { λ r. ⌜ Typed (now (out .entry)) at badLine r (now (out .exit)) ⌝ }
@@ -88,7 +89,7 @@ pub fn bad_line(out: &mut [u8], at: usize) -> usize
     append(out, at, b"bad line\n")
 }
 
-// `refused N`
+// Appends the line `refused N`.
 pub fn refused(out: &mut [u8], at: usize, n: u64) -> usize
     requires { ⌜ at + length (refusedLine n) ≤ length (now out) ⌝ }
     ensures { λ r. ⌜ Typed (now (out .entry)) at (refusedLine n) r (now (out .exit)) ⌝ }
@@ -98,7 +99,7 @@ pub fn refused(out: &mut [u8], at: usize, n: u64) -> usize
     append_byte(out, next, b'\n')
 }
 
-// A number alone.
+// Appends a line with a number alone.
 pub fn number(out: &mut [u8], at: usize, n: u64) -> usize
     requires { ⌜ at + length (numberLine n) ≤ length (now out) ⌝ }
     ensures { λ r. ⌜ Typed (now (out .entry)) at (numberLine n) r (now (out .exit)) ⌝ }
@@ -107,7 +108,7 @@ pub fn number(out: &mut [u8], at: usize, n: u64) -> usize
     append_byte(out, next, b'\n')
 }
 
-// `N entries`
+// Appends the line `N entries`.
 pub fn header(out: &mut [u8], at: usize, n: u64) -> usize
     requires { ⌜ at + length (headerLine n) ≤ length (now out) ⌝ }
     ensures { λ r. ⌜ Typed (now (out .entry)) at (headerLine n) r (now (out .exit)) ⌝ }
@@ -116,7 +117,7 @@ pub fn header(out: &mut [u8], at: usize, n: u64) -> usize
     append(out, next, b" entries\n")
 }
 
-// `KEY FRAME`
+// Appends the line `KEY FRAME`.
 pub fn entry(out: &mut [u8], at: usize, stored: &[u8], frame: u64) -> usize
     requires { ⌜ at + length (entryLine (now stored) frame) ≤ length (now out) ⌝ }
     ensures { λ r. ⌜ Typed (now (out .entry)) at (entryLine (now (stored .entry)) frame) r (now (out .exit)) ⌝ }

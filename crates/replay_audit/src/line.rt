@@ -11,10 +11,12 @@ pub(crate) struct Lengths {
     pub bytes: usize,
 }
 
+// What the line is to do, by its first byte.
 pub(crate) fn operation(text: &[u8]) -> u8 {
     at(text, 0)
 }
 
+// The byte at i, or 0 past the end.
 fn at(text: &[u8], i: usize) -> u8 {
     if i < text.len() {
         return text[i];
@@ -22,10 +24,12 @@ fn at(text: &[u8], i: usize) -> u8 {
     0
 }
 
+// The index of the word or byte that the line names.
 fn index(text: &[u8]) -> usize {
     hex::eight(text, 2) as usize
 }
 
+// The value that goes there.
 fn value(text: &[u8]) -> u64 {
     hex::sixteen(text, 10)
 }
@@ -50,7 +54,7 @@ pub(crate) fn lent(text: &[u8]) -> Lengths {
     }
 }
 
-// The audit of what is lent says what the line has.
+// Whether the audit of what is lent says what the line has.
 pub(crate) fn agrees(nodes: &[u64], cells: &[u64], bytes: &[u8], l: Lengths, text: &[u8]) -> bool {
     if nodes.len() < l.nodes {
         return false;
@@ -86,6 +90,7 @@ pub(crate) fn measured(nodes: &[u64], cells: &[u64], bytes: &[u8], l: Lengths, t
     pace::measured(&nodes[0..n], &cells[0..c], &bytes[0..b], which, value(text))
 }
 
+// A verdict as the line has it: `1` for a tree, `0` for none.
 fn shown(audited: Audited) -> u8 {
     match audited {
         Audited::Tree => b'1',
@@ -93,16 +98,17 @@ fn shown(audited: Audited) -> u8 {
     }
 }
 
-// One word or byte of the memory; what stood there is handed back.
+// Changes the word or byte that the line names, and hands back what stood there.
 pub(crate) fn change(nodes: &mut [u64], cells: &mut [u64], bytes: &mut [u8], text: &[u8]) -> u64 {
     put(nodes, cells, bytes, at(text, 1), index(text), value(text))
 }
 
-// The same word or byte as it was.
+// Writes back what stood in that word or byte.
 pub(crate) fn undo(nodes: &mut [u64], cells: &mut [u64], bytes: &mut [u8], text: &[u8], old: u64) {
     put(nodes, cells, bytes, at(text, 1), index(text), old);
 }
 
+// Writes a word of the nodes or of the cells, or a byte, and hands back what stood there.
 fn put(
     nodes: &mut [u64],
     cells: &mut [u64],
@@ -120,6 +126,7 @@ fn put(
     put_byte(bytes, i, value)
 }
 
+// Writes one word, and hands back what stood there; 0 where there is no such word.
 fn put_word(words: &mut [u64], i: usize, value: u64) -> u64 {
     if words.len() <= i {
         return 0;
@@ -136,10 +143,12 @@ fn low_byte(value: u64) -> u8
     (value % 256) as u8
 }
 
+// A byte as a number of 64 bits.
 fn wide(byte: u8) -> u64 {
     byte as u64
 }
 
+// Writes one byte, and hands back what stood there; 0 where there is no such byte.
 fn put_byte(bytes: &mut [u8], i: usize, value: u64) -> u64 {
     if bytes.len() <= i {
         return 0;

@@ -6,6 +6,7 @@ mod pace;
 use line::Lengths;
 use tally::Tally;
 
+// Replays every line of the input on memory with room for 256 nodes and cells, and tells how many verdicts differ.
 fn main() {
     let mut nodes = [0u64; 12034];
     let mut cells = [0u64; 512];
@@ -23,6 +24,7 @@ fn replay_all(nodes: &mut [u64], cells: &mut [u64], bytes: &mut [u8]) -> Tally {
         cells: 0,
         bytes: 0,
     };
+    // `lines` lines are replayed, and `lengths` is what the last new memory has.
     while lines < u64::MAX {
         let mut text = [0u8; 28];
         if !tally::next(&mut text) {
@@ -102,6 +104,7 @@ fn agrees(
     line::agrees(nodes, cells, bytes, lengths, text)
 }
 
+// Prints a number on a line of its own.
 fn say(number: u64) {
     io::print_decimal(1, number);
     io::write_all(1, b"\n");

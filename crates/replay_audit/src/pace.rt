@@ -24,6 +24,7 @@ fn audits(nodes: &[u64], cells: &[u64], bytes: &[u8], times: u64) -> u64 {
     trees
 }
 
+// 1 for a tree, 0 for none.
 fn count(audited: Audited) -> u64 {
     match audited {
         Audited::Tree => 1,
@@ -44,6 +45,7 @@ fn passes(nodes: &[u64], cells: &[u64], bytes: &[u8], times: u64) -> u64 {
     sum
 }
 
+// The sum of all words.
 fn words(words: &[u64]) -> u64 {
     let mut sum: u64 = 0;
     let mut i: usize = 0;
@@ -54,6 +56,7 @@ fn words(words: &[u64]) -> u64 {
     sum
 }
 
+// The sum of all bytes.
 fn all(bytes: &[u8]) -> u64 {
     let mut sum: u64 = 0;
     let mut i: usize = 0;
@@ -77,6 +80,7 @@ fn folds(nodes: &[u64], cells: &[u64], bytes: &[u8], times: u64) -> u64 {
     sum
 }
 
+// The xor of all words.
 fn words_folded(words: &[u64]) -> u64 {
     let mut sum: u64 = 0;
     let mut i: usize = 0;
@@ -87,6 +91,7 @@ fn words_folded(words: &[u64]) -> u64 {
     sum
 }
 
+// The xor of all bytes.
 fn bytes_folded(bytes: &[u8]) -> u8 {
     let mut sum: u8 = 0;
     let mut i: usize = 0;
@@ -97,11 +102,12 @@ fn bytes_folded(bytes: &[u8]) -> u8 {
     sum
 }
 
+// A byte as a number of 64 bits.
 fn wide(byte: u8) -> u64 {
     byte as u64
 }
 
-// Sums that run round at 2^64.
+// The sum of two numbers, running round at 2^64.
 fn add(a: u64, b: u64) -> u64 {
     std::num::wrapping_add_u64(a, b)
 }

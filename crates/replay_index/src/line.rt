@@ -8,6 +8,7 @@ use index::Found;
 use index::Listed;
 use index::Removed;
 
+// Which call the line records, by its first byte; 0 where the line is empty.
 pub(crate) fn call(text: &[u8]) -> u8 {
     if text.len() == 0 {
         return 0;
@@ -15,19 +16,22 @@ pub(crate) fn call(text: &[u8]) -> u8 {
     text[0]
 }
 
+// The number that the call answered: 0, or that of a refusal.
 fn number(text: &[u8]) -> u64 {
     hex::two(text, 1)
 }
 
+// The frame number of the line: the one put, or the one told.
 fn frame(text: &[u8]) -> u64 {
     hex::sixteen(text, 3)
 }
 
-// How many nodes, and how many cells, a new memory has.
+// How many nodes a new memory has.
 pub(crate) fn nodes_of(text: &[u8]) -> usize {
     hex::four(text, 23) as usize
 }
 
+// How many cells a new memory has.
 pub(crate) fn cells_of(text: &[u8]) -> usize {
     hex::four(text, 31) as usize
 }
@@ -43,6 +47,7 @@ fn length(text: &[u8]) -> usize
     n
 }
 
+// The bytes of the key, filled up with zeros.
 fn key_of(text: &[u8]) -> [u8; 257] {
     let mut key = [0u8; 257];
     let mut i: usize = 0;
@@ -53,7 +58,7 @@ fn key_of(text: &[u8]) -> [u8; 257] {
     key
 }
 
-// The call says what the line has, and the memory after it has the line's sum.
+// Whether the call says what the line has, and the memory after it has the line's sum.
 pub(crate) fn agrees(nodes: &mut [u64], cells: &mut [u64], bytes: &mut [u8], text: &[u8]) -> bool {
     let space = key_of(text);
     let n = length(text);
@@ -64,6 +69,7 @@ pub(crate) fn agrees(nodes: &mut [u64], cells: &mut [u64], bytes: &mut [u8], tex
     sum::of(nodes, cells, bytes) == hex::sixteen(text, 35)
 }
 
+// Makes the recorded call; whether it says what the line has.
 fn says(nodes: &mut [u64], cells: &mut [u64], bytes: &mut [u8], key: &[u8], text: &[u8]) -> bool {
     let which = call(text);
     if which == b'c' {
@@ -86,6 +92,7 @@ fn says(nodes: &mut [u64], cells: &mut [u64], bytes: &mut [u8], key: &[u8], text
     )
 }
 
+// The number that a clear answers: 0, or that of its refusal.
 fn cleared_number(answer: Cleared) -> u64 {
     match answer {
         Cleared::Done => 0,
@@ -93,6 +100,7 @@ fn cleared_number(answer: Cleared) -> u64 {
     }
 }
 
+// The number that a put answers: 0, or that of its refusal.
 fn put_number(answer: Added) -> u64 {
     match answer {
         Added::Done => 0,
@@ -100,6 +108,7 @@ fn put_number(answer: Added) -> u64 {
     }
 }
 
+// The number that a removal answers: 0, or that of its refusal.
 fn removed_number(answer: Removed) -> u64 {
     match answer {
         Removed::Done => 0,
@@ -107,6 +116,7 @@ fn removed_number(answer: Removed) -> u64 {
     }
 }
 
+// Whether a find says what the line has.
 fn found(answer: Found, text: &[u8]) -> bool {
     match answer {
         Found::Frame(x) => number(text) == 0 && x == frame(text),
@@ -114,6 +124,7 @@ fn found(answer: Found, text: &[u8]) -> bool {
     }
 }
 
+// Whether k-th says what the line has, and the key stands in the cell that it tells.
 fn reached(bytes: &[u8], answer: Listed, key: &[u8], text: &[u8]) -> bool {
     match answer {
         Listed::Entry {
@@ -125,7 +136,7 @@ fn reached(bytes: &[u8], answer: Listed, key: &[u8], text: &[u8]) -> bool {
     }
 }
 
-// The key stands in a cell, and has this length.
+// Whether the key stands in a cell, and has this length.
 fn stands(bytes: &[u8], cell: u64, length: u64, key: &[u8]) -> bool {
     if length != key.len() as u64 {
         return false;

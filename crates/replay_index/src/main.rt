@@ -5,6 +5,7 @@ mod sum;
 
 use tally::Tally;
 
+// Replays every line of the input on memory with room for 256 nodes and cells, and tells how many differ.
 fn main() {
     let mut nodes = [0u64; 12034];
     let mut cells = [0u64; 512];
@@ -18,6 +19,7 @@ fn replay_all(nodes: &mut [u64], cells: &mut [u64], bytes: &mut [u8]) -> Tally {
     let mut tally = tally::none();
     let mut n: usize = 0;
     let mut c: usize = 0;
+    // The last new memory has n nodes and c cells, and every line so far is counted.
     while tally.answers < u64::MAX {
         let mut text = [0u8; 570];
         if !tally::next(&mut text) {
@@ -35,13 +37,14 @@ fn replay_all(nodes: &mut [u64], cells: &mut [u64], bytes: &mut [u8]) -> Tally {
     tally
 }
 
+// Makes all of the memory zero.
 fn wipe(nodes: &mut [u64], cells: &mut [u64], bytes: &mut [u8]) {
     arena::inside::zero_words(nodes, 0, nodes.len());
     arena::inside::zero_words(cells, 0, cells.len());
     arena::inside::zero_bytes(bytes, 0, bytes.len());
 }
 
-// One call on the first n nodes and c cells.
+// Replays one call on the first n nodes and c cells; whether it agrees.
 fn replay_call(
     nodes: &mut [u64],
     cells: &mut [u64],

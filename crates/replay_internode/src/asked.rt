@@ -7,12 +7,14 @@ use internode::Place;
 use internode::Verdict;
 use internode::inside;
 
+// What a call said: 0 or the number of a refusal, a value, and the node that is handed back.
 pub struct Said {
     pub number: u64,
     pub value: u64,
     pub node: Internode,
 }
 
+// An order as the line has it: 0 less, 1 equal, 2 greater.
 fn place_of(order: Ordering) -> u64 {
     match order {
         Ordering::Less => 0,
@@ -21,6 +23,7 @@ fn place_of(order: Ordering) -> u64 {
     }
 }
 
+// The place for an ikey, and the node as it was.
 fn find(node: Internode, ikey: u64) -> Said {
     match internode::find_insert_position(node, ikey) {
         Place::At(p) => Said {
@@ -36,6 +39,7 @@ fn find(node: Internode, ikey: u64) -> Said {
     }
 }
 
+// How an ikey stands to that at p, and the node as it was.
 fn compare(node: Internode, ikey: u64, p: usize) -> Said {
     match internode::compare_key(node, ikey, p) {
         Compared::Is(order) => Said {
@@ -51,6 +55,7 @@ fn compare(node: Internode, ikey: u64, p: usize) -> Said {
     }
 }
 
+// The child for an ikey, and the node as it was.
 fn descend(node: Internode, ikey: u64) -> Said {
     match internode::child_for(node, ikey) {
         Child::Is(number) => Said {
@@ -66,6 +71,7 @@ fn descend(node: Internode, ikey: u64) -> Said {
     }
 }
 
+// The node with an ikey and a child more, or as it was beside a refusal.
 fn insert(node: Internode, p: usize, ikey: u64, child: u64) -> Said {
     let answer = internode::insert_key_and_child(node, p, ikey, child);
     let after = answer.node;

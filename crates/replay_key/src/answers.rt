@@ -11,6 +11,7 @@ use key::Told;
 use key::Word;
 use refusal::Refusal;
 
+// What a call said: 0 or the number of a refusal, and three values, 0 where there is none.
 pub struct Said {
     pub number: u64,
     pub a: u64,
@@ -18,6 +19,7 @@ pub struct Said {
     pub c: u64,
 }
 
+// One value, accepted.
 fn value(a: u64) -> Said {
     Said {
         number: 0,
@@ -27,6 +29,7 @@ fn value(a: u64) -> Said {
     }
 }
 
+// The three numbers of a key, accepted.
 fn layer(k: Layer) -> Said {
     Said {
         number: 0,
@@ -36,6 +39,7 @@ fn layer(k: Layer) -> Said {
     }
 }
 
+// A refusal with the numbers that are handed back.
 fn refused(why: Refusal, k: Layer) -> Said {
     Said {
         number: refusal::number(why),
@@ -45,6 +49,7 @@ fn refused(why: Refusal, k: Layer) -> Said {
     }
 }
 
+// A refusal that hands nothing back.
 fn nothing(why: Refusal) -> Said {
     Said {
         number: refusal::number(why),
@@ -54,6 +59,7 @@ fn nothing(why: Refusal) -> Said {
     }
 }
 
+// An order as the record has it: 0 less, 1 equal, 2 greater.
 fn order(o: Ordering) -> u64 {
     match o {
         Ordering::Less => 0,
@@ -62,6 +68,7 @@ fn order(o: Ordering) -> u64 {
     }
 }
 
+// What `new` says.
 fn made(r: Made) -> Said {
     match r {
         Made::At(k) => layer(k),
@@ -69,6 +76,7 @@ fn made(r: Made) -> Said {
     }
 }
 
+// What a shift or an unshift says.
 fn moved(r: Moved) -> Said {
     match r {
         Moved::At(k) => layer(k),
@@ -76,6 +84,7 @@ fn moved(r: Moved) -> Said {
     }
 }
 
+// What a call says that tells a length, a count or an offset.
 pub(crate) fn count(r: Count) -> Said {
     match r {
         Count::Is(n) => value(n as u64),
@@ -83,6 +92,7 @@ pub(crate) fn count(r: Count) -> Said {
     }
 }
 
+// What a call says that tells an ikey.
 pub(crate) fn word(r: Word) -> Said {
     match r {
         Word::Is(w) => value(w),
@@ -90,10 +100,12 @@ pub(crate) fn word(r: Word) -> Said {
     }
 }
 
+// 1 for yes, 0 for no.
 fn flag(b: bool) -> u64 {
     if b { 1 } else { 0 }
 }
 
+// What a call says that tells whether something is so.
 pub(crate) fn told(r: Told) -> Said {
     match r {
         Told::Is(b) => value(flag(b)),
@@ -101,6 +113,7 @@ pub(crate) fn told(r: Told) -> Said {
     }
 }
 
+// What a comparison says.
 pub(crate) fn compared(r: Compared) -> Said {
     match r {
         Compared::Is(o) => value(order(o)),
@@ -108,6 +121,7 @@ pub(crate) fn compared(r: Compared) -> Said {
     }
 }
 
+// What the comparison of two whole keys says.
 fn whole(r: Whole) -> Said {
     match r {
         Whole::Is(o) => value(order(o)),
@@ -115,7 +129,7 @@ fn whole(r: Whole) -> Said {
     }
 }
 
-// Whether a key fits.
+// What the judgement of a key says.
 pub(crate) fn judged(r: Judged) -> Said {
     match r {
         Judged::Fits => value(0),
@@ -146,10 +160,12 @@ pub(crate) fn part(number: u64, s: &[u8]) -> Said {
     }
 }
 
+// A byte as a number of 64 bits.
 fn wide(x: u8) -> u64 {
     x as u64
 }
 
+// A sum over bytes and their order, as the record has it.
 fn sum(s: &[u8]) -> u64 {
     let mut x: u64 = 1;
     let mut i: usize = 0;
@@ -160,10 +176,12 @@ fn sum(s: &[u8]) -> u64 {
     x
 }
 
+// The sum with one byte more.
 fn mix(x: u64, b: u64) -> u64 {
     (x % 65521 * 31 + b % 256 + 1) % 65521
 }
 
+// The numbers of no key: zeros.
 fn none() -> Layer {
     Layer {
         ikey: 0,
@@ -184,6 +202,7 @@ pub(crate) fn reach(a: &[u8], layer: u8) -> Layer {
     l
 }
 
+// What a call says that asks for a number, by its code in the sample.
 fn plain(op: u8, a: &[u8], k: Layer) -> Said {
     match op {
         2 => count(key::len(a, k.ikey, k.shift_count, k.suffix_start)),
@@ -195,6 +214,7 @@ fn plain(op: u8, a: &[u8], k: Layer) -> Said {
     }
 }
 
+// What a call says that asks whether something is so.
 fn tests(op: u8, a: &[u8], k: Layer) -> Said {
     match op {
         8 => told(key::is_empty(a, k.ikey, k.shift_count, k.suffix_start)),
@@ -203,6 +223,7 @@ fn tests(op: u8, a: &[u8], k: Layer) -> Said {
     }
 }
 
+// What a call says that moves the key, by so many bytes where it takes them.
 fn moves(op: u8, a: &[u8], k: Layer, by: u64) -> Said {
     match op {
         11 => moved(key::shift(a, k.ikey, k.shift_count, k.suffix_start)),
@@ -212,6 +233,7 @@ fn moves(op: u8, a: &[u8], k: Layer, by: u64) -> Said {
     }
 }
 
+// What `suffix` says, as a length and a sum.
 fn suffixed(a: &[u8], k: Layer) -> Said {
     let i = k.ikey;
     let s = k.shift_count;
@@ -222,6 +244,7 @@ fn suffixed(a: &[u8], k: Layer) -> Said {
     )
 }
 
+// What `full_data` says, as a length and a sum.
 fn data(a: &[u8], k: Layer) -> Said {
     let i = k.ikey;
     let s = k.shift_count;
@@ -232,6 +255,7 @@ fn data(a: &[u8], k: Layer) -> Said {
     )
 }
 
+// What a call on a key at a layer says, by its code in the sample.
 fn on_key(op: u8, a: &[u8], b: &[u8], k: Layer, x: u64, y: u64) -> Said {
     if op < 8 {
         return plain(op, a, k);

@@ -11,10 +11,12 @@ use crate::held;
 use held_key::Numbers;
 use key::Layer;
 
+// The numbers of a key beside its refusal, as an answer.
 fn moved(n: Numbers) -> Said {
     numbers(n.refusal, n.ikey, n.shift_count, n.suffix_start)
 }
 
+// What a call says that asks for a number, by its code in the sample.
 fn plain(op: u8, a: &[u8], i: u64, s: usize, p: usize) -> Said {
     match op {
         2 => count(held::len(a, i, s, p)),
@@ -26,6 +28,7 @@ fn plain(op: u8, a: &[u8], i: u64, s: usize, p: usize) -> Said {
     }
 }
 
+// What a call says that asks whether something is so.
 fn tests(op: u8, a: &[u8], i: u64, s: usize, p: usize) -> Said {
     match op {
         8 => told(held::is_empty(a, i, s, p)),
@@ -34,6 +37,7 @@ fn tests(op: u8, a: &[u8], i: u64, s: usize, p: usize) -> Said {
     }
 }
 
+// What a call says that moves the key, by so many bytes where it takes them.
 fn moves(op: u8, a: &[u8], i: u64, s: usize, p: usize, by: u64) -> Said {
     match op {
         11 => moved(held::shift(a, i, s, p)),
@@ -43,6 +47,7 @@ fn moves(op: u8, a: &[u8], i: u64, s: usize, p: usize, by: u64) -> Said {
     }
 }
 
+// What `suffix` and `full_data` say, as a length and a sum.
 fn parts(op: u8, a: &[u8], i: u64, s: usize, p: usize) -> Said {
     match op {
         15 => part(held::suffix_number(a, i, s, p), held::suffix(a, i, s, p)),

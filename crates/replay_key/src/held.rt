@@ -1,5 +1,5 @@
-// The calls on a key that holds its bytes, with plain parameters: a key is made of the bytes and the numbers, and what is answered is handed
-// on without the bytes.
+// The calls on a key that holds its bytes, with plain parameters: a key is made of the bytes and the numbers, and what is answered is
+// handed on without the bytes.
 ghost use mathlib.Core.Path.{_≡_};
 ghost use Rattle.key_layer.specs.Keys.{answerTo, newSaid, shiftSaid, shiftBySaid, unshiftSaid};
 ghost use Rattle.key_layer.specs.Keys.{Judge, Len, Ikey, ShiftCount, SuffixStart, CurrentLen, IsEmpty, IsShifted, HasSuffix, SuffixLen};
@@ -17,6 +17,7 @@ use key::Part;
 use key::Told;
 use key::Word;
 
+// The length of the whole key.
 pub fn len(bytes: &[u8], ikey: u64, shift_count: usize, suffix_start: usize) -> Count
     ensures { λ r. ⌜ saidCount r ≡ answerTo Len (now (bytes .entry)) ikey «shift_count» «suffix_start» ⌝ }
 {
@@ -28,6 +29,7 @@ pub fn len(bytes: &[u8], ikey: u64, shift_count: usize, suffix_start: usize) -> 
     })
 }
 
+// The ikey at the key's layer.
 pub fn ikey(bytes: &[u8], ikey: u64, shift_count: usize, suffix_start: usize) -> Word
     ensures { λ r. ⌜ saidWord r ≡ answerTo Ikey (now (bytes .entry)) ikey «shift_count» «suffix_start» ⌝ }
 {
@@ -39,6 +41,7 @@ pub fn ikey(bytes: &[u8], ikey: u64, shift_count: usize, suffix_start: usize) ->
     })
 }
 
+// How often the key was shifted.
 pub fn shift_count(bytes: &[u8], ikey: u64, shift_count: usize, suffix_start: usize) -> Count
     ensures { λ r. ⌜ saidCount r ≡ answerTo ShiftCount (now (bytes .entry)) ikey «shift_count» «suffix_start» ⌝ }
 {
@@ -50,6 +53,7 @@ pub fn shift_count(bytes: &[u8], ikey: u64, shift_count: usize, suffix_start: us
     })
 }
 
+// Where the suffix starts, in the whole key.
 pub fn suffix_start(bytes: &[u8], ikey: u64, shift_count: usize, suffix_start: usize) -> Count
     ensures { λ r. ⌜ saidCount r ≡ answerTo SuffixStart (now (bytes .entry)) ikey «shift_count» «suffix_start» ⌝ }
 {
@@ -61,6 +65,7 @@ pub fn suffix_start(bytes: &[u8], ikey: u64, shift_count: usize, suffix_start: u
     })
 }
 
+// The length from the key's layer on.
 pub fn current_len(bytes: &[u8], ikey: u64, shift_count: usize, suffix_start: usize) -> Count
     ensures { λ r. ⌜ saidCount r ≡ answerTo CurrentLen (now (bytes .entry)) ikey «shift_count» «suffix_start» ⌝ }
 {
@@ -72,6 +77,7 @@ pub fn current_len(bytes: &[u8], ikey: u64, shift_count: usize, suffix_start: us
     })
 }
 
+// The length of the suffix.
 pub fn suffix_len(bytes: &[u8], ikey: u64, shift_count: usize, suffix_start: usize) -> Count
     ensures { λ r. ⌜ saidCount r ≡ answerTo SuffixLen (now (bytes .entry)) ikey «shift_count» «suffix_start» ⌝ }
 {
@@ -83,6 +89,7 @@ pub fn suffix_len(bytes: &[u8], ikey: u64, shift_count: usize, suffix_start: usi
     })
 }
 
+// Whether the key has no byte at all.
 pub fn is_empty(bytes: &[u8], ikey: u64, shift_count: usize, suffix_start: usize) -> Told
     ensures { λ r. ⌜ saidTold r ≡ answerTo IsEmpty (now (bytes .entry)) ikey «shift_count» «suffix_start» ⌝ }
 {
@@ -94,6 +101,7 @@ pub fn is_empty(bytes: &[u8], ikey: u64, shift_count: usize, suffix_start: usize
     })
 }
 
+// Whether the key was shifted.
 pub fn is_shifted(bytes: &[u8], ikey: u64, shift_count: usize, suffix_start: usize) -> Told
     ensures { λ r. ⌜ saidTold r ≡ answerTo IsShifted (now (bytes .entry)) ikey «shift_count» «suffix_start» ⌝ }
 {
@@ -105,6 +113,7 @@ pub fn is_shifted(bytes: &[u8], ikey: u64, shift_count: usize, suffix_start: usi
     })
 }
 
+// Whether more than eight bytes are left at the key's layer.
 pub fn has_suffix(bytes: &[u8], ikey: u64, shift_count: usize, suffix_start: usize) -> Told
     ensures { λ r. ⌜ saidTold r ≡ answerTo HasSuffix (now (bytes .entry)) ikey «shift_count» «suffix_start» ⌝ }
 {
@@ -116,6 +125,7 @@ pub fn has_suffix(bytes: &[u8], ikey: u64, shift_count: usize, suffix_start: usi
     })
 }
 
+// Whether the numbers fit the bytes.
 pub fn judge(bytes: &[u8], ikey: u64, shift_count: usize, suffix_start: usize) -> Judged
     ensures { λ r. ⌜ saidJudged r ≡ answerTo Judge (now (bytes .entry)) ikey «shift_count» «suffix_start» ⌝ }
 {
@@ -139,6 +149,7 @@ fn numbers<'a>(k: Keyed<'a>) -> Numbers
     }
 }
 
+// The numbers of the key eight bytes further on.
 pub fn shift(bytes: &[u8], ikey: u64, shift_count: usize, suffix_start: usize) -> Numbers
     ensures { λ r. ⌜ r ≡ numbersIn (shiftSaid (now (bytes .entry)) ikey «shift_count» «suffix_start») ⌝ }
 {
@@ -150,6 +161,7 @@ pub fn shift(bytes: &[u8], ikey: u64, shift_count: usize, suffix_start: usize) -
     }))
 }
 
+// The numbers of the key eight bytes back.
 pub fn unshift(bytes: &[u8], ikey: u64, shift_count: usize, suffix_start: usize) -> Numbers
     ensures { λ r. ⌜ r ≡ numbersIn (unshiftSaid (now (bytes .entry)) ikey «shift_count» «suffix_start») ⌝ }
 {
@@ -161,6 +173,7 @@ pub fn unshift(bytes: &[u8], ikey: u64, shift_count: usize, suffix_start: usize)
     }))
 }
 
+// The numbers of the key at layer 0 again.
 pub fn unshift_all(bytes: &[u8], ikey: u64, shift_count: usize, suffix_start: usize) -> Numbers
     ensures { λ r. ⌜ r ≡ numbersIn (answerTo UnshiftAll (now (bytes .entry)) ikey «shift_count» «suffix_start») ⌝ }
 {
@@ -172,19 +185,21 @@ pub fn unshift_all(bytes: &[u8], ikey: u64, shift_count: usize, suffix_start: us
     }))
 }
 
-// The two parts of a part.
+// The number beside a part: 0, or that of a refusal.
 fn number<'a>(p: Part<'a>) -> u64
     ensures { λ r. ⌜ r ≡ p .entry .refusal ⌝ }
 {
     p.refusal
 }
 
+// The bytes of a part.
 fn bytes_of<'a>(p: Part<'a>) -> &'a [u8]
     ensures { λ r. ⌜ r ≡ p .entry .bytes ⌝ }
 {
     p.bytes
 }
 
+// The number that `suffix` gives: 0, or that of its refusal.
 pub fn suffix_number(bytes: &[u8], ikey: u64, shift_count: usize, suffix_start: usize) -> u64
     ensures { λ r. ⌜ r ≡ suffixSaid (now (bytes .entry)) ikey «shift_count» «suffix_start» .number ⌝ }
 {
@@ -196,6 +211,7 @@ pub fn suffix_number(bytes: &[u8], ikey: u64, shift_count: usize, suffix_start: 
     }))
 }
 
+// The bytes that `suffix` hands back.
 pub fn suffix<'a>(bytes: &'a [u8], ikey: u64, shift_count: usize, suffix_start: usize) -> &'a [u8]
     ensures { λ r. ⌜ now r ≡ suffixSaid (now (bytes .entry)) ikey «shift_count» «suffix_start» .values ⌝ }
 {
@@ -207,6 +223,7 @@ pub fn suffix<'a>(bytes: &'a [u8], ikey: u64, shift_count: usize, suffix_start: 
     }))
 }
 
+// The number that `full_data` gives: 0, or that of its refusal.
 pub fn full_data_number(bytes: &[u8], ikey: u64, shift_count: usize, suffix_start: usize) -> u64
     ensures { λ r. ⌜ r ≡ dataSaid (now (bytes .entry)) ikey «shift_count» «suffix_start» .number ⌝ }
 {
@@ -218,6 +235,7 @@ pub fn full_data_number(bytes: &[u8], ikey: u64, shift_count: usize, suffix_star
     }))
 }
 
+// The bytes that `full_data` hands back.
 pub fn full_data<'a>(
     bytes: &'a [u8],
     ikey: u64,
@@ -234,12 +252,14 @@ pub fn full_data<'a>(
     }))
 }
 
+// The numbers of a new key.
 pub fn new(bytes: &[u8]) -> Numbers
     ensures { λ r. ⌜ r ≡ numbersIn (newSaid (now (bytes .entry))) ⌝ }
 {
     numbers(held_key::new(bytes))
 }
 
+// The numbers of the key that many bytes further on.
 pub fn shift_by(
     bytes: &[u8],
     ikey: u64,
@@ -260,6 +280,7 @@ pub fn shift_by(
     ))
 }
 
+// How the key stands to an ikey and a length, at one layer.
 pub fn compare(
     bytes: &[u8],
     ikey: u64,
@@ -282,6 +303,7 @@ pub fn compare(
     )
 }
 
+// How the key's suffix stands to another, byte by byte.
 pub fn compare_suffix(
     bytes: &[u8],
     ikey: u64,

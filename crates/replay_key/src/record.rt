@@ -6,7 +6,7 @@ use crate::answers::answer;
 use crate::answers::reach;
 use crate::asked;
 
-// The byte at i, or 0.
+// The byte at i, or 0 past the end.
 fn byte(s: &[u8], i: usize) -> u8 {
     if i < s.len() {
         return s[i];
@@ -14,13 +14,14 @@ fn byte(s: &[u8], i: usize) -> u8 {
     0
 }
 
+// A byte as a number of 64 bits.
 fn wide(x: u8) -> u64
     ensures { λ r. ⌜ r < 256 ⌝ }
 {
     x as u64
 }
 
-// Two, four and eight bytes from i on, the first one highest.
+// Two bytes from i on, the first one highest.
 fn two(s: &[u8], i: usize) -> u64
     requires { ⌜ i < 4096 ⌝ }
     ensures { λ r. ⌜ r < 65536 ⌝ }
@@ -28,6 +29,7 @@ fn two(s: &[u8], i: usize) -> u64
     wide(byte(s, i)) * 256 + wide(byte(s, i + 1))
 }
 
+// Four bytes from i on, the first one highest.
 fn four(s: &[u8], i: usize) -> u64
     requires { ⌜ i < 4000 ⌝ }
     ensures { λ r. ⌜ r < 2 ^ 32 ⌝ }
@@ -35,28 +37,31 @@ fn four(s: &[u8], i: usize) -> u64
     two(s, i) * 65536 + two(s, i + 2)
 }
 
+// Eight bytes from i on, the first one highest.
 fn eight(s: &[u8], i: usize) -> u64
     requires { ⌜ i < 3000 ⌝ }
 {
     four(s, i) * 0x1_0000_0000 + four(s, i + 4)
 }
 
+// Writes a byte; nothing where there is no such place.
 fn put(out: &mut [u8], i: usize, x: u8) {
     if i < out.len() {
         out[i] = x;
     }
 }
 
-// The number after x, and the byte that it stands for.
+// The number after x, of those that a key's bytes are made from.
 fn stir(x: u64) -> u64 {
     (x % 65537 * 75 + 74) % 65537
 }
 
+// The lowest eight bits.
 fn low(x: u64) -> u8 {
     (x % 256) as u8
 }
 
-// A byte of a key of that kind.
+// A byte of a key of that kind: the seed itself, or the lowest bits of x.
 fn choose(kind: u8, seed: u8, x: u64) -> u8 {
     if kind == 0 {
         return seed;
@@ -64,7 +69,7 @@ fn choose(kind: u8, seed: u8, x: u64) -> u8 {
     low(x)
 }
 
-// The bytes of a key: all the same, or stirred from a seed; then one of them changed.
+// Writes the bytes of a key, all the same or stirred from a seed, then one of them changed; tells how many.
 fn build(rec: &[u8], from: usize, out: &mut [u8]) -> usize
     requires { ⌜ from < 1000 ⌝ }
     ensures { λ r. ⌜ Counts r (now (out .exit)) ⌝ }
@@ -77,6 +82,7 @@ fn build(rec: &[u8], from: usize, out: &mut [u8]) -> usize
     let seed = byte(rec, from + 3);
     let mut x = wide(seed);
     let mut i: usize = 0;
+    // The first i bytes are written, and x is the number that the last one came from.
     while i < n {
         x = stir(x);
         put(out, i, choose(kind, seed, x));
@@ -89,8 +95,8 @@ fn build(rec: &[u8], from: usize, out: &mut [u8]) -> usize
     n
 }
 
-// The answer of the recorded call is the recorded one, and so is that of the same call on a key that holds its bytes. Such a key is refused
-// by `judge` where a question is.
+// Whether the answer of the recorded call is the recorded one, and that of the same call on a key that holds its bytes. Such a key is
+// refused by `judge` where a question is.
 fn agrees_on(rec: &[u8], a: &[u8], b: &[u8]) -> bool {
     let op = byte(rec, 0);
     let layer = byte(rec, 15);
@@ -111,7 +117,7 @@ fn agrees_on(rec: &[u8], a: &[u8], b: &[u8]) -> bool {
     same(rec, asked::answer(op, a, b, k, x, y))
 }
 
-// The two keys of a record are built, and the call is made.
+// Builds the two keys of a record and makes the call; whether it agrees.
 pub(crate) fn agrees(rec: &[u8]) -> bool {
     let mut a = [0u8; 300];
     let mut b = [0u8; 300];
@@ -120,6 +126,7 @@ pub(crate) fn agrees(rec: &[u8]) -> bool {
     agrees_on(rec, &a[..m], &b[..n])
 }
 
+// Whether the record has this answer.
 fn same(rec: &[u8], said: Said) -> bool {
     if said.number != wide(byte(rec, 32)) {
         return false;

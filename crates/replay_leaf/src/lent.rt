@@ -4,7 +4,7 @@ ghost use Rattle.leaf.specs.Search.{saidSearched, searchSaid};
 use leaf::Entry;
 use leaf::Searched;
 
-// Fifteen entries, lent.
+// Searches a leaf with these fifteen entries lent.
 pub fn search(
     word: u64,
     entries: [Entry; 15],

@@ -12,6 +12,7 @@ struct Said {
     value: u64,
 }
 
+// An accepted search: its outcome, and the slot or the position.
 fn accepted(outcome: u64, value: usize) -> Said {
     Said {
         number: 0,
@@ -20,6 +21,7 @@ fn accepted(outcome: u64, value: usize) -> Said {
     }
 }
 
+// What a search said, as numbers.
 fn told(searched: Searched) -> Said {
     match searched {
         Searched::Found(slot) => accepted(0, slot),
@@ -52,6 +54,7 @@ fn entry_at(text: &[u8], slot: usize) -> Entry
     }
 }
 
+// The entries of the line, by slot.
 fn entries_of(text: &[u8]) -> [Entry; 15] {
     let mut entries = [Entry {
         ikey: 0,
@@ -104,7 +107,7 @@ fn key_of(text: &[u8]) -> [u8; 300] {
     key
 }
 
-// The answer to the search of the line, with these words, bytes and key lent: of entries by value, and of the same entries lent.
+// The answer to the search of the line among entries by value, with these words, bytes and key lent.
 fn ask(text: &[u8], cells: &[u64], bytes: &[u8], key: &[u8]) -> Said {
     told(leaf::search(
         hex::sixteen(text, 25),
@@ -118,6 +121,7 @@ fn ask(text: &[u8], cells: &[u64], bytes: &[u8], key: &[u8]) -> Said {
     ))
 }
 
+// The answer to the same search among the same entries, lent.
 fn ask_lent(text: &[u8], cells: &[u64], bytes: &[u8], key: &[u8]) -> Said {
     told(lent::search(
         hex::sixteen(text, 25),
@@ -131,6 +135,7 @@ fn ask_lent(text: &[u8], cells: &[u64], bytes: &[u8], key: &[u8]) -> Said {
     ))
 }
 
+// Whether the line has this answer.
 fn is_recorded(text: &[u8], answer: Said) -> bool {
     if answer.number != hex::two(text, 2) {
         return false;
@@ -141,7 +146,7 @@ fn is_recorded(text: &[u8], answer: Said) -> bool {
     answer.value == hex::sixteen(text, 8)
 }
 
-// Both searches say what the line says.
+// Whether both searches say what the line says.
 fn agree_both(text: &[u8], cells: &[u64], bytes: &[u8], key: &[u8]) -> bool {
     if !is_recorded(text, ask(text, cells, bytes, key)) {
         return false;

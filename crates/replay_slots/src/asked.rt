@@ -15,6 +15,7 @@ pub struct Said {
     pub second: u64,
 }
 
+// A changed word, or a refusal and the word as it was.
 fn of_changed(answer: Changed) -> Said
     ensures { λ r. ⌜ r ≡ saidOf (saidChanged answer) ⌝ }
 {
@@ -32,6 +33,7 @@ fn of_changed(answer: Changed) -> Said
     }
 }
 
+// The word after an insertion and the slot handed out, or a refusal and the word as it was.
 fn of_inserted(answer: Inserted) -> Said
     ensures { λ r. ⌜ r ≡ saidOf (saidInserted answer) ⌝ }
 {
@@ -49,6 +51,7 @@ fn of_inserted(answer: Inserted) -> Said
     }
 }
 
+// A number told of a word, or a refusal and the word.
 fn of_told(answer: Told) -> Said
     ensures { λ r. ⌜ r ≡ saidOf (saidTold answer) ⌝ }
 {
@@ -66,6 +69,7 @@ fn of_told(answer: Told) -> Said
     }
 }
 
+// A word that was made, or a refusal alone.
 fn of_made(answer: Made) -> Said
     ensures { λ r. ⌜ r ≡ saidOf (saidMade answer) ⌝ }
 {

@@ -39,6 +39,7 @@ pub fn place_for(nodes: &[u64], n: u64, ikey: u64) -> usize
     let count = word_of(nodes, n, 1);
     let mut place: usize = 0;
     let mut i: usize = 0;
+    // `place` is the place after the last of the first i ikeys that is not above this one.
     while (i as u64) < count {
         let at = 2 + n as usize * 47 + 2 + i;
         if nodes.len() <= at {
@@ -76,6 +77,7 @@ pub fn leaf_for(nodes: &[u64], height: usize, node: u64, ikey: u64) -> u64
 {
     let mut n = node;
     let mut h = height;
+    // The leaf for the ikey is below n, h steps down.
     while 0 < h {
         n = child_for(nodes, n, ikey);
         h -= 1;
@@ -83,7 +85,7 @@ pub fn leaf_for(nodes: &[u64], height: usize, node: u64, ikey: u64) -> u64
     n
 }
 
-// The entry has this ikey and the class of this length.
+// Whether an entry has this ikey and the class of this length.
 pub fn is_same(ikey: u64, len: usize, e: Entry) -> bool
     ensures { λ r. ⌜ r ≡ isEq (against ikey (classOf len) e) ⌝ }
 {
@@ -103,6 +105,7 @@ pub fn place_equal(nodes: &[u64], n: u64, ikey: u64, len: usize) -> usize
     let word = word_of(nodes, n, 1);
     let size = size_of(word);
     let mut i: usize = 0;
+    // No entry before position i has this ikey and class.
     while i < size {
         let slot = slot_of(word, i);
         let e = entry_of(nodes, n, slot);
@@ -128,6 +131,7 @@ pub struct Place {
     position: usize,
 }
 
+// Where a key goes in the layer of this root, so many links down.
 pub fn place_in(nodes: &[u64], key: &[u8], links: usize, root: u64) -> Place
     requires { ⌜ NodesLent (length (now nodes)) × (links ≤ 31) ⌝ }
     ensures { λ r. ⌜ r .leaf ≡ leafIn (now (nodes .entry)) root (ikeyAt (now (key .entry)) (8 * links)) ⌝ }
@@ -143,7 +147,7 @@ pub fn place_in(nodes: &[u64], key: &[u8], links: usize, root: u64) -> Place
 
 // ---- to a key
 
-// Cell c has this key.
+// Whether cell c holds this key.
 pub fn has_key(cells: &[u64], bytes: &[u8], c: u64, key: &[u8]) -> bool
     requires { ⌜ CellsLent (length (now cells)) (length (now bytes)) × (length (now key) ≤ 256) ⌝ }
     ensures { λ r. ⌜ r ≡ hasKey (now (cells .entry)) (now (bytes .entry)) c (now (key .entry)) ⌝ }
@@ -172,7 +176,7 @@ pub fn number_word(n: u64, slot: usize) -> usize
     2 + n as usize * 47 + 32 + slot
 }
 
-// Where a key is, from a layer down.
+// Where a key is, from a layer down: stored, in conflict with another, or missing in a layer.
 pub fn seek(
     nodes: &[u64],
     cells: &[u64],
@@ -228,7 +232,7 @@ pub fn seek(
 
 // ---- to the k-th entry
 
-// Of a layer, from its root on.
+// The k-th entry of a layer, by its root.
 pub fn kth_layer(nodes: &[u64], links: usize, root: u64, k: u64) -> Reached
     requires { ⌜ NodesLent (length (now nodes)) × (links ≤ 31) ⌝ }
     ensures { λ r. ⌜ r ≡ reach k (cellsOfLayer (31 - links) (now (nodes .entry)) root) ⌝ }
@@ -237,7 +241,7 @@ pub fn kth_layer(nodes: &[u64], links: usize, root: u64, k: u64) -> Reached
     kth_node(nodes, links, height, root, k)
 }
 
-// Of a node of this height.
+// The k-th entry below a node of this height.
 pub fn kth_node(nodes: &[u64], links: usize, height: usize, n: u64, k: u64) -> Reached
     requires { ⌜ NodesLent (length (now nodes)) × (links ≤ 31) ⌝ }
     ensures { λ r. ⌜ r ≡ reach k (cellsOfNode (layersBelow (31 - links) (now (nodes .entry))) (now (nodes .entry)) height n) ⌝ }
@@ -248,6 +252,7 @@ pub fn kth_node(nodes: &[u64], links: usize, height: usize, n: u64, k: u64) -> R
     let many = children_of(nodes, n);
     let mut left = k;
     let mut i: usize = 0;
+    // The k-th entry is the `left`-th below the children from i on.
     while i < many {
         let child = child_at(nodes, n, i);
         let reached = kth_node(nodes, links, height - 1, child, left);
@@ -285,7 +290,7 @@ pub fn children_of(nodes: &[u64], n: u64) -> usize
     room
 }
 
-// A child of an internode.
+// Child i of an internode.
 pub fn child_at(nodes: &[u64], n: u64, i: usize) -> u64
     requires { ⌜ (length (now nodes) ≤ 11987) × (nodeStart n + 17 + i < length (now nodes)) × (i ≤ wordAt (now nodes) n 1) ⌝ }
     ensures { λ r. ⌜ r ≡ getD (childrenAt (now (nodes .entry)) n) i 0 ⌝ }
@@ -293,7 +298,7 @@ pub fn child_at(nodes: &[u64], n: u64, i: usize) -> u64
     nodes[2 + n as usize * 47 + 17 + i]
 }
 
-// Of a leaf, its entries in order.
+// The k-th entry of a leaf, with the layers below its links.
 pub fn kth_leaf(nodes: &[u64], links: usize, n: u64, k: u64) -> Reached
     requires { ⌜ NodesLent (length (now nodes)) × (links ≤ 31) ⌝ }
     ensures { λ r. ⌜ r ≡ reach k (cellsOfLeaf (layersBelow (31 - links) (now (nodes .entry))) (now (nodes .entry)) n) ⌝ }
@@ -302,6 +307,7 @@ pub fn kth_leaf(nodes: &[u64], links: usize, n: u64, k: u64) -> Reached
     let size = size_of(word);
     let mut left = k;
     let mut i: usize = 0;
+    // The k-th entry is the `left`-th of the entries from position i on, and of the layers below them.
     while i < size {
         let slot = slot_of(word, i);
         let e = entry_of(nodes, n, slot);
@@ -320,7 +326,7 @@ pub fn kth_leaf(nodes: &[u64], links: usize, n: u64, k: u64) -> Reached
     Reached::Beyond(left)
 }
 
-// Of an entry: its cell, or the layer below.
+// The k-th of what one entry of a leaf stands for: its own cell, or the entries of the layer below.
 pub fn kth_entry(nodes: &[u64], links: usize, e: Entry, k: u64) -> Reached
     requires { ⌜ NodesLent (length (now nodes)) × (links ≤ 31) ⌝ }
     ensures { λ r. ⌜ r ≡ reach k (cellsAt (layersBelow (31 - links) (now (nodes .entry))) e) ⌝ }

@@ -25,7 +25,7 @@ pub use zeros::inside::bytes_zero;
 pub use zeros::inside::still_zero;
 pub use zeros::inside::words_zero;
 
-// An internode by the rules.
+// Whether node k is an internode by the rules: its kind, at most 15 rising ikeys, and zeros behind them and behind the children.
 pub fn internode_right(nodes: &[u64], k: usize) -> bool
     requires { ⌜ nodeStart k + 47 ≤ length (now nodes) ⌝ }
     ensures { λ r. ⌜ r ≡ internodeRight (now (nodes .entry)) k ⌝ }
@@ -48,12 +48,13 @@ pub fn internode_right(nodes: &[u64], k: usize) -> bool
     words_zero(nodes, at + 18 + n, 29 - n)
 }
 
-// n words from `at` on strictly rise.
+// Whether n words from `at` on strictly rise.
 pub fn ikeys_rising(words: &[u64], at: usize, n: usize) -> bool
     requires { ⌜ at + n ≤ length (now words) ⌝ }
     ensures { λ r. ⌜ r ≡ internode.rising (part (now (words .entry)) at n) ⌝ }
 {
     let mut i: usize = 1;
+    // The first i words strictly rise.
     while i < n {
         if words[at + i] <= words[at + i - 1] {
             return false;
@@ -63,7 +64,7 @@ pub fn ikeys_rising(words: &[u64], at: usize, n: usize) -> bool
     true
 }
 
-// A free node.
+// Whether node k is free: all its words are zero.
 pub fn node_free(nodes: &[u64], k: usize) -> bool
     requires { ⌜ nodeStart k + 47 ≤ length (now nodes) ⌝ }
     ensures { λ r. ⌜ r ≡ nodeFree (now (nodes .entry)) k ⌝ }
@@ -78,6 +79,7 @@ pub fn height(nodes: &[u64], count: usize, root: u64) -> usize
 {
     let mut n = root;
     let mut h: usize = 0;
+    // n is reached from the root by h first children.
     while h < 255 {
         if count as u64 <= n {
             return h;

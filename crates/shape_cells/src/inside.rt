@@ -8,7 +8,7 @@ ghost use Rattle.forest.specs.Cells.{cellRight, under, keyed, filed, cellFree};
 use zeros::inside::bytes_zero;
 use zeros::inside::words_zero;
 
-// A cell in use: a key of up to 256 bytes, and zeros past its end.
+// Whether a cell is one in use: a key of up to 256 bytes, and zeros past its end.
 pub fn cell_right(cells: &[u64], bytes: &[u8], c: usize) -> bool
     requires { ⌜ (cellStart c + 2 ≤ length (now cells)) × (keyStart c + 256 ≤ length (now bytes)) ⌝ }
     ensures { λ r. ⌜ r ≡ cellRight (now (cells .entry)) (now (bytes .entry)) c ⌝ }
@@ -24,12 +24,13 @@ pub fn cell_right(cells: &[u64], bytes: &[u8], c: usize) -> bool
     bytes_zero(bytes, c * 256 + len, 256 - len)
 }
 
-// The key has the ikeys of the links above it, and goes on behind each.
+// Whether a key has the ikeys of the links above it, and goes on behind each.
 pub fn is_under(key: &[u8], above: &[u64], links: usize) -> bool
     requires { ⌜ (links ≤ length (now above)) × (links ≤ 31) ⌝ }
     ensures { λ r. ⌜ r ≡ under (now (key .entry)) 0 (take links (now (above .entry))) ⌝ }
 {
     let mut i: usize = 0;
+    // The key has the ikeys of the first i links, and goes on behind each.
     while i < links {
         if ikey::read_ikey(key, 8 * i) != above[i] {
             return false;
@@ -62,7 +63,7 @@ pub fn class_of(left: usize) -> u64
     left as u64
 }
 
-// The key has the ikeys of the links above it, then this ikey and length class.
+// Whether a key has the ikeys of the links above it, then this ikey and length class.
 pub fn is_keyed(key: &[u8], above: &[u64], links: usize, ikey: u64, class: u64) -> bool
     requires { ⌜ (links ≤ length (now above)) × (links ≤ 31) ⌝ }
     ensures { λ r. ⌜ r ≡ keyed (now (key .entry)) (take links (now (above .entry))) ikey class ⌝ }
@@ -76,7 +77,7 @@ pub fn is_keyed(key: &[u8], above: &[u64], links: usize, ikey: u64, class: u64) 
     class_of(left_behind(key.len(), 8 * links)) == class
 }
 
-// Cell c belongs to an entry of this ikey and class, below these links.
+// Whether cell c belongs to an entry of this ikey and class, below these links.
 pub fn is_filed(
     cells: &[u64],
     bytes: &[u8],
@@ -98,7 +99,7 @@ pub fn is_filed(
     is_keyed(key, above, links, ikey, class)
 }
 
-// A free cell.
+// Whether cell c is free: its words and bytes are zero.
 pub fn cell_free(cells: &[u64], bytes: &[u8], c: usize) -> bool
     requires { ⌜ (cellStart c + 2 ≤ length (now cells)) × (keyStart c + 256 ≤ length (now bytes)) ⌝ }
     ensures { λ r. ⌜ r ≡ cellFree (now (cells .entry)) (now (bytes .entry)) c ⌝ }

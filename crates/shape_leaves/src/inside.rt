@@ -25,7 +25,7 @@ pub fn entry_at(nodes: &[u64], k: usize, slot: usize) -> Entry
     }
 }
 
-// A leaf by the rules.
+// Whether node k is a leaf by the rules: its kind, a valid slot word, classes, rising entries, and zeros in the free slots.
 pub fn leaf_right(nodes: &[u64], k: usize) -> bool
     requires { ⌜ nodeStart k + 47 ≤ length (now nodes) ⌝ }
     ensures { λ r. ⌜ r ≡ leafRight (now (nodes .entry)) k ⌝ }
@@ -46,13 +46,14 @@ pub fn leaf_right(nodes: &[u64], k: usize) -> bool
     rest_zero(nodes, k, word)
 }
 
-// Each entry in use has a class of 0 to 10.
+// Whether each entry in use has a class of 0 to 10.
 pub fn entries_of_class(nodes: &[u64], k: usize, word: u64) -> bool
     requires { ⌜ (nodeStart k + 47 ≤ length (now nodes)) × (validWord 15 word ≡ true) × (word ≡ wordAt (now nodes) k 1) ⌝ }
     ensures { λ r. ⌜ r ≡ every ofClass (entriesAt (now (nodes .entry)) k) ⌝ }
 {
     let size = size_of(word);
     let mut i: usize = 0;
+    // The entries before position i have such a class.
     while i < size {
         let slot = slot_at(word, i);
         if 10 < nodes[2 + k * 47 + 17 + slot] {
@@ -63,13 +64,14 @@ pub fn entries_of_class(nodes: &[u64], k: usize, word: u64) -> bool
     true
 }
 
-// The entries in use strictly rise.
+// Whether the entries in use strictly rise.
 pub fn entries_rising(nodes: &[u64], k: usize, word: u64) -> bool
     requires { ⌜ (nodeStart k + 47 ≤ length (now nodes)) × (validWord 15 word ≡ true) × (word ≡ wordAt (now nodes) k 1) ⌝ }
     ensures { λ r. ⌜ r ≡ rising (entriesAt (now (nodes .entry)) k) ⌝ }
 {
     let size = size_of(word);
     let mut i: usize = 1;
+    // The entries before position i strictly rise.
     while i < size {
         let e = entry_at(nodes, k, slot_at(word, i - 1));
         let d = entry_at(nodes, k, slot_at(word, i));
@@ -81,12 +83,13 @@ pub fn entries_rising(nodes: &[u64], k: usize, word: u64) -> bool
     true
 }
 
-// The slots that are not in use are zero.
+// Whether the slots that are not in use are zero.
 pub fn rest_zero(nodes: &[u64], k: usize, word: u64) -> bool
     requires { ⌜ (nodeStart k + 47 ≤ length (now nodes)) × (validWord 15 word ≡ true) × (word ≡ wordAt (now nodes) k 1) ⌝ }
     ensures { λ r. ⌜ r ≡ every isZero (restAt (now (nodes .entry)) k) ⌝ }
 {
     let mut i: usize = size_of(word);
+    // The free slots before position i are zero.
     while i < 15 {
         let e = entry_at(nodes, k, slot_at(word, i));
         if !is_zero(e) {
@@ -97,6 +100,7 @@ pub fn rest_zero(nodes: &[u64], k: usize, word: u64) -> bool
     true
 }
 
+// Whether all three numbers of an entry are 0.
 pub fn is_zero(e: Entry) -> bool
     ensures { λ r. ⌜ r ≡ isZero e ⌝ }
 {

@@ -15,7 +15,7 @@ ghost use Rattle.store.specs.Places.{roomAt, withAt, Lent};
 use arena::inside::Lowest;
 use model::Met;
 
-// The lowest free cell.
+// The lowest free cell, 0 where none is free.
 fn lowest_cell(cells: &[u64]) -> usize
     requires { ⌜ 1 ≤ cellCount (length (now cells)) ⌝ }
     ensures { λ r. ⌜ (r ≡ getD (freeCells (now (cells .entry)) (cellCount (length (now (cells .entry))))) 0 0) × (r < cellCount (length (now (cells .entry)))) ⌝ }
@@ -46,7 +46,7 @@ fn key_in<'a>(cells: &[u64], bytes: &'a [u8], cell: u64) -> &'a [u8]
     &bytes[from..from + (mark - 1) as usize]
 }
 
-// The nodes that a put needs where the key is not stored.
+// How many nodes a put needs at the place that its key has met; 0 where the key is stored.
 fn needed(nodes: &[u64], cells: &[u64], bytes: &[u8], key: &[u8], met: Met) -> usize
     requires { ⌜ Lent (now nodes) (now cells) (now bytes) met ⌝ }
     ensures { λ r. ⌜ r ≡ neededAt (memory (now (nodes .entry)) (now (cells .entry)) (now (bytes .entry))) (now (key .entry)) met ⌝ }
@@ -78,7 +78,7 @@ fn needed(nodes: &[u64], cells: &[u64], bytes: &[u8], key: &[u8], met: Met) -> u
     }
 }
 
-// A cell is free, and nodes enough.
+// Whether a cell is free, and nodes enough.
 pub fn has_room(nodes: &[u64], cells: &[u64], bytes: &[u8], key: &[u8], met: Met) -> bool
     requires { ⌜ Lent (now nodes) (now cells) (now bytes) met ⌝ }
     ensures { λ r. ⌜ r ≡ roomAt (memory (now (nodes .entry)) (now (cells .entry)) (now (bytes .entry))) (now (key .entry)) met ⌝ }
@@ -104,7 +104,7 @@ fn make_link(nodes: &mut [u64], leaf: u64, position: usize) -> usize
     at + 32 + slot
 }
 
-// The nodes with the key's entry: in its layer, or below the entry that it is in conflict with.
+// Puts the key's entry into the nodes: in its layer, or below the entry that it is in conflict with.
 fn put_nodes(nodes: &mut [u64], cells: &[u64], bytes: &[u8], key: &[u8], c: u64, met: Met)
     requires { ⌜ Lent (now nodes) (now cells) (now bytes) met ⌝ }
     ensures { λ _. ⌜ now (nodes .exit) ≡ nodesWith (memory (now (nodes .entry)) (now (cells .entry)) (now (bytes .entry))) (now (key .entry)) c met ⌝ }
@@ -137,7 +137,7 @@ fn put_nodes(nodes: &mut [u64], cells: &[u64], bytes: &[u8], key: &[u8], c: u64,
     }
 }
 
-// The key's entry into the nodes, and the key with its frame number into the lowest free cell.
+// Puts the key's entry into the nodes, and the key with its frame number into the lowest free cell.
 pub fn put_new(
     nodes: &mut [u64],
     cells: &mut [u64],

@@ -22,6 +22,7 @@ pub(crate) fn same(a: &[u8], b: &[u8]) -> bool
         return false;
     }
     let mut i = 0;
+    // The first i bytes are the same.
     while i < a.len() {
         if a[i] != b[i] {
             return false;
@@ -71,6 +72,7 @@ fn is_pairs(field: &[u8]) -> bool
         return false;
     }
     let mut i = 0;
+    // The first i bytes are hex digits.
     while i < field.len() {
         if !is_hex(field[i]) {
             return false;
@@ -80,12 +82,13 @@ fn is_pairs(field: &[u8]) -> bool
     true
 }
 
-// Each pair of hex digits as a byte, at the front of the buffer.
+// Writes each pair of hex digits as a byte to the front of the buffer, and tells how many.
 fn pairs_to(field: &[u8], key: &mut [u8]) -> usize
     requires { ⌜ (isPairs (now field) ≡ true) × (length (now field) ≤ 2 * length (now key)) ⌝ }
     ensures { λ r. ⌜ (r ≡ length (pairs (now (field .entry)))) × (now (key .exit) ≡ putPart (now (key .entry)) 0 (pairs (now (field .entry)))) ⌝ }
 {
     let mut i = 0;
+    // The first i pairs are written.
     while 2 * i + 1 < field.len() {
         let high = hex_value(field[2 * i]);
         let low = hex_value(field[2 * i + 1]);
@@ -95,7 +98,7 @@ fn pairs_to(field: &[u8], key: &mut [u8]) -> usize
     i
 }
 
-// Whether a field is a key.
+// Whether a field is a key: `-`, or pairs of hex digits.
 pub(crate) fn is_key(field: &[u8]) -> bool
     ensures { λ r. ⌜ r ≡ isKey (now (field .entry)) ⌝ }
 {
@@ -105,7 +108,7 @@ pub(crate) fn is_key(field: &[u8]) -> bool
     is_pairs(field)
 }
 
-// The key of a field at the front of the buffer, and its length.
+// Writes the key of a field to the front of the buffer, and tells its length.
 pub(crate) fn key_to(field: &[u8], key: &mut [u8]) -> usize
     requires { ⌜ (isKey (now field) ≡ true) × (length (now field) ≤ 2 * length (now key)) ⌝ }
     ensures { λ r. ⌜ (r ≡ length (keyIn (now (field .entry)))) × (now (key .exit) ≡ putPart (now (key .entry)) 0 (keyIn (now (field .entry)))) ⌝ }
@@ -124,6 +127,7 @@ fn decimal_in(field: &[u8]) -> Frame
 {
     let mut n: u64 = 0;
     let mut i = 0;
+    // The first i bytes are digits, and n is their value.
     while i < field.len() {
         let b = field[i];
         if b < b'0' {
@@ -142,7 +146,7 @@ fn decimal_in(field: &[u8]) -> Frame
     Frame::Number(n)
 }
 
-// The frame number of a field, where it is one.
+// The frame number of a field, where it is one: decimal digits without a leading zero, below 2^64.
 pub(crate) fn frame_in(field: &[u8]) -> Frame
     ensures { λ r. ⌜ r ≡ frameIf (isFrame (now (field .entry))) (now (field .entry)) ⌝ }
 {

@@ -19,7 +19,7 @@ pub enum Line {
     Bad,
 }
 
-// A line of two fields.
+// What a line of two fields asks for: a find or a del.
 fn read_two(word: &[u8], field: &[u8], key: &mut [u8]) -> Line
     requires { ⌜ (length (now field) ≤ 1200) × (600 ≤ length (now key)) ⌝ }
     ensures { λ r. ⌜ heard r (now (key .exit)) ≡ taken (readFields (now (word .entry) ∷ now (field .entry) ∷ [])) (now (key .entry)) ⌝ }
@@ -40,7 +40,7 @@ fn read_two(word: &[u8], field: &[u8], key: &mut [u8]) -> Line
     Line::Bad
 }
 
-// A put with a key, if the last field is a frame number.
+// What a put with a good key asks for, if the last field is a frame number.
 fn read_put(field: &[u8], last: &[u8], key: &mut [u8]) -> Line
     requires { ⌜ (isKey (now field) ≡ true) × (length (now field) ≤ 1200) × (600 ≤ length (now key)) ⌝ }
     ensures { λ r. ⌜ heard r (now (key .exit)) ≡ taken (framed (keyIn (now (field .entry))) (now (last .entry))) (now (key .entry)) ⌝ }
@@ -53,7 +53,7 @@ fn read_put(field: &[u8], last: &[u8], key: &mut [u8]) -> Line
     Line::Bad
 }
 
-// A line of three fields.
+// What a line of three fields asks for: a put.
 fn read_three(word: &[u8], field: &[u8], last: &[u8], key: &mut [u8]) -> Line
     requires { ⌜ (length (now field) ≤ 1200) × (600 ≤ length (now key)) ⌝ }
     ensures { λ r. ⌜ heard r (now (key .exit)) ≡ taken (readFields (now (word .entry) ∷ now (field .entry) ∷ now (last .entry) ∷ [])) (now (key .entry)) ⌝ }
@@ -67,7 +67,7 @@ fn read_three(word: &[u8], field: &[u8], last: &[u8], key: &mut [u8]) -> Line
     read_put(field, last, key)
 }
 
-// A line of one field.
+// What a line of one field asks for: the list.
 fn read_one(word: &[u8], key: &mut [u8]) -> Line
     ensures { λ r. ⌜ heard r (now (key .exit)) ≡ taken (readFields (now (word .entry) ∷ [])) (now (key .entry)) ⌝ }
 {
@@ -77,7 +77,7 @@ fn read_one(word: &[u8], key: &mut [u8]) -> Line
     Line::Bad
 }
 
-// The fields of a line of at most 1,200 bytes.
+// What a line of at most 1,200 bytes asks for, by its fields.
 fn read_fields(line: &[u8], key: &mut [u8]) -> Line
     requires { ⌜ (length (now line) ≤ 1200) × (600 ≤ length (now key)) ⌝ }
     ensures { λ r. ⌜ heard r (now (key .exit)) ≡ taken (readFields (split 32 (now (line .entry)))) (now (key .entry)) ⌝ }
@@ -99,7 +99,7 @@ fn read_fields(line: &[u8], key: &mut [u8]) -> Line
     read_three(word, &rest[..b], last, key)
 }
 
-// A line without its line feed.
+// What a line asks for, without its line feed; one over 1,200 bytes is bad.
 pub fn read_line(line: &[u8], key: &mut [u8]) -> Line
     requires { ⌜ 600 ≤ length (now key) ⌝ }
     ensures { λ r. ⌜ heard r (now (key .exit)) ≡ taken (read (now (line .entry))) (now (key .entry)) ⌝ }

@@ -49,7 +49,7 @@ pub fn inserted(word: u64, width: usize, i: usize) -> u64
     join(low(kept, i + 1) + 1, from_i, i + 1)
 }
 
-// Nibble k is d, the others stay.
+// Sets nibble k to d; the others stay.
 pub fn put(x: u64, width: usize, k: usize, d: usize) -> u64
     requires { ⌜ (k < width) × (width ≤ 15) × (d < 16) × (x < 2 ^ (4 * width)) ⌝ }
     ensures { λ r. ⌜ r ≡ pack (set (nibbles width x) k d) ⌝ }
@@ -83,6 +83,7 @@ pub fn place(word: u64, width: usize, slot: usize) -> usize
 {
     let size = size_of(word);
     let mut i: usize = 0;
+    // No position before i holds the slot.
     while i < size {
         if nibble(word, i + 1) == slot {
             return i;

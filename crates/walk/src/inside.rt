@@ -12,7 +12,7 @@ ghost use Rattle.walk.specs.Steps.{edgeAt, told, refsAt, cellOf, Lent, L
 use edge::Edge;
 use leaf::Entry;
 
-// One layer from its root on.
+// Walks one layer from its root on; false at the first thing that is against the rules.
 pub fn walk_layer(
     nodes: &[u64],
     cells: &[u64],
@@ -33,7 +33,7 @@ pub fn walk_layer(
     walk_node(nodes, cells, bytes, seen, above, links, h, open, open, root)
 }
 
-// One node of this height, between two edges.
+// Walks one node of this height, between two edges: takes its number, and goes on as a leaf or an internode.
 fn walk_node(
     nodes: &[u64],
     cells: &[u64],
@@ -62,7 +62,7 @@ fn walk_node(
     walk_internode(nodes, cells, bytes, seen, above, links, h - 1, low, high, k)
 }
 
-// One leaf, its entries in order.
+// Walks one leaf: judges it, then its entries in order.
 fn walk_leaf(
     nodes: &[u64],
     cells: &[u64],
@@ -84,6 +84,7 @@ fn walk_leaf(
     let word = nodes[2 + k * 47 + 1];
     let size = leaf::inside::size_of(word);
     let mut i: usize = 0;
+    // The entries before position i lie between the edges and are walked.
     while i < size {
         let slot = leaf::inside::slot_at(word, i);
         let e = shape::inside::entry_at(nodes, k, slot);
@@ -98,7 +99,7 @@ fn walk_leaf(
     true
 }
 
-// An entry's cell, or the layer below at a link.
+// Walks what an entry stands for: its cell, or the layer below at a link.
 fn walk_entry(
     nodes: &[u64],
     cells: &[u64],
@@ -123,7 +124,7 @@ fn walk_entry(
     walk_layer(nodes, cells, bytes, seen, &way, links + 1, e.at)
 }
 
-// An entry's cell, rightly filed.
+// Whether an entry's cell is there and rightly filed; takes its number.
 fn walk_cell(
     cells: &[u64],
     bytes: &[u8],
@@ -145,7 +146,7 @@ fn walk_cell(
     see_number(seen, 2 * c + 1)
 }
 
-// One internode, its children in order.
+// Walks one internode: judges it, then its children in order, each between its own edges.
 fn walk_internode(
     nodes: &[u64],
     cells: &[u64],
@@ -169,6 +170,7 @@ fn walk_internode(
     let n = nodes[at + 1] as usize;
     let mut left = low;
     let mut i: usize = 0;
+    // The first i children are walked, and `left` is the edge between them and the next.
     while i <= n {
         let right = right_edge(nodes, at + 2 + i, i < n, high);
         if !edge::inside::is_between(left, right) {
@@ -198,7 +200,7 @@ fn right_edge(nodes: &[u64], at: usize, inner: bool, high: Edge) -> Edge
     }
 }
 
-// A number, if it was not seen before.
+// Marks a number; false if it was marked.
 fn see_number(seen: &mut [u8], i: usize) -> bool
     requires { ⌜ i < length (now seen) ⌝ }
     ensures { λ r. ⌜ told r (now (seen .exit)) ≡ see i (now (seen .entry)) ⌝ }

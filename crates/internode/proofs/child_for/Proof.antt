@@ -4,13 +4,7 @@ use borrow.Author.Needs.{needs}
 use Rattle.internode.proofs.child_for.Statement.{statement}
 use Rattle.internode.proofs.child_for.Tie as tie
 
-returns : tie.Need-returns
-returns c = search calls
-
-returns-2 : tie.Need-returns-2
-returns-2 c = search calls
-
 pub child-for-spec : {M : Type 1} → statement M
 child-for-spec =
     tie.close
-    (tie.spec (λ c κs. search needs) returns (λ c κs. search asks) (λ c. search needs) (λ c. search needs) returns-2)
+    (tie.spec (λ c κs. search needs) (λ c. search calls) (λ c κs. search asks) (λ c. search needs) (λ c. search needs) (λ c. search calls))

@@ -4,12 +4,6 @@ use borrow.Author.Needs.{needs}
 use Rattle.internode.proofs.find_insert_position.Statement.{statement}
 use Rattle.internode.proofs.find_insert_position.Tie as tie
 
-returns : tie.Need-returns
-returns c = search calls
-
-returns-2 : tie.Need-returns-2
-returns-2 c = search calls
-
 pub find-insert-position-spec : {M : Type 1} → statement M
 find-insert-position-spec =
-    tie.close (tie.spec (λ c κs. search needs) returns (λ c κs. search asks) returns-2)
+    tie.close (tie.spec (λ c κs. search needs) (λ c. search calls) (λ c κs. search asks) (λ c. search calls))

@@ -4,15 +4,6 @@ use borrow.Author.Needs.{needs}
 use Rattle.internode.proofs.insert_key_and_child.Statement.{statement}
 use Rattle.internode.proofs.insert_key_and_child.Tie as tie
 
-returns : tie.Need-returns
-returns c = search calls
-
-returns-2 : tie.Need-returns-2
-returns-2 c = search calls
-
-returns-3 : tie.Need-returns-3
-returns-3 c = search calls
-
 returns-4 : tie.Need-returns-4
 returns-4 c =
     let k = c .before .before .before in
@@ -21,18 +12,15 @@ returns-4 c =
     insert-order (a .node) (g .is-good .ensures) (k .before .if1 .left) (a .p) (a .ikey) (a .child)
     (k .if2 .left) (c .before .before .if3 .left) (c .before .keeps-order .ensures) (c .if4 .taken)
 
-returns-5 : tie.Need-returns-5
-returns-5 c = search calls
-
 pub insert-key-and-child-spec : {M : Type 1} → statement M
 insert-key-and-child-spec =
     tie.close
     (tie.spec
     (λ c κs. search needs)
-    returns
-    returns-2
-    returns-3
+    (λ c. search calls)
+    (λ c. search calls)
+    (λ c. search calls)
     (λ c κs. search asks)
     returns-4
     (λ c κs. search needs)
-    returns-5)
+    (λ c. search calls))

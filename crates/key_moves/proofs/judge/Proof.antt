@@ -4,11 +4,5 @@ use Rattle.key_layer.proofs.Calls.{asking}
 use Rattle.key_moves.proofs.judge.Statement.{statement}
 use Rattle.key_moves.proofs.judge.Tie as tie
 
-returns : tie.Need-returns
-returns c = search asking
-
-returns-2 : tie.Need-returns-2
-returns-2 c = search asking
-
 pub judge-spec : {M : Type 1} → statement M
-judge-spec = tie.close (tie.spec (λ c κs. search needs) returns returns-2)
+judge-spec = tie.close (tie.spec (λ c κs. search needs) (λ c. search asking) (λ c. search asking))

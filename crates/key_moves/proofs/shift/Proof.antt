@@ -4,15 +4,6 @@ use Rattle.key_layer.proofs.Calls.{moving}
 use Rattle.key_moves.proofs.shift.Statement.{statement}
 use Rattle.key_moves.proofs.shift.Tie as tie
 
-returns : tie.Need-returns
-returns c = search moving
-
-returns-2 : tie.Need-returns-2
-returns-2 c = search moving
-
-returns-3 : tie.Need-returns-3
-returns-3 c = search moving
-
 pub shift-spec : {M : Type 1} → statement M
 shift-spec =
     tie.close
@@ -21,8 +12,8 @@ shift-spec =
     (λ c κs. search needs)
     (λ c. search needs)
     (λ c κs. search needs)
-    returns
+    (λ c. search moving)
     (λ c κs. search needs)
-    returns-2
+    (λ c. search moving)
     (λ c κs. search needs)
-    returns-3)
+    (λ c. search moving))

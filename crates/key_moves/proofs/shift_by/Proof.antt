@@ -5,31 +5,16 @@ use Rattle.key_layer.proofs.Calls.{moving}
 use Rattle.key_moves.proofs.shift_by.Statement.{statement}
 use Rattle.key_moves.proofs.shift_by.Tie as tie
 
-add-layer : tie.Need-add-layer
-add-layer c = search withins
-
-layer-requires : tie.Need-layer-requires
-layer-requires c κs = search withins
-
-returns : tie.Need-returns
-returns c = search moving
-
-returns-2 : tie.Need-returns-2
-returns-2 c = search moving
-
-returns-3 : tie.Need-returns-3
-returns-3 c = search moving
-
 pub shift-by-spec : {M : Type 1} → statement M
 shift-by-spec =
     tie.close
     (tie.spec
     (λ c κs. search needs)
     (λ c κs. search needs)
-    add-layer
-    layer-requires
-    returns
+    (λ c. search withins)
+    (λ c κs. search withins)
+    (λ c. search moving)
     (λ c κs. search needs)
-    returns-2
+    (λ c. search moving)
     (λ c κs. search needs)
-    returns-3)
+    (λ c. search moving))

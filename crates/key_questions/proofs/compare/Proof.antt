@@ -4,8 +4,5 @@ use Rattle.key_layer.proofs.Calls.{asking}
 use Rattle.key_questions.proofs.compare.Statement.{statement}
 use Rattle.key_questions.proofs.compare.Tie as tie
 
-returns : tie.Need-returns
-returns c = search asking
-
 pub compare-spec : {M : Type 1} → statement M
-compare-spec = tie.close (tie.spec (λ c κs. search needs) (λ c κs. search needs) (λ c κs. search needs) returns)
+compare-spec = tie.close (tie.spec (λ c κs. search needs) (λ c κs. search needs) (λ c κs. search needs) (λ c. search asking))

@@ -4,8 +4,5 @@ use Rattle.key_layer.proofs.Calls.{asking}
 use Rattle.key_questions.proofs.has_suffix.Statement.{statement}
 use Rattle.key_questions.proofs.has_suffix.Tie as tie
 
-returns : tie.Need-returns
-returns c = search asking
-
 pub has-suffix-spec : {M : Type 1} → statement M
-has-suffix-spec = tie.close (tie.spec (λ c κs. search needs) (λ c κs. search needs) returns)
+has-suffix-spec = tie.close (tie.spec (λ c κs. search needs) (λ c κs. search needs) (λ c. search asking))

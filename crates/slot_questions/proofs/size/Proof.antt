@@ -4,12 +4,6 @@ use Rattle.slot_answers.proofs.Calls.{calls}
 use Rattle.slot_questions.proofs.size.Statement.{statement}
 use Rattle.slot_questions.proofs.size.Tie as tie
 
-returns : tie.Need-returns
-returns c = search calls
-
-returns-2 : tie.Need-returns-2
-returns-2 c = search calls
-
 pub size-spec : {M : Type 1} → statement M
 size-spec =
-    tie.close (tie.spec (λ c κs. search needs) (λ c. search needs) returns (λ c. search needs) (λ c κs. search needs) returns-2)
+    tie.close (tie.spec (λ c κs. search needs) (λ c. search needs) (λ c. search calls) (λ c. search needs) (λ c κs. search needs) (λ c. search calls))

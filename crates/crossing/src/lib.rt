@@ -1,13 +1,13 @@
 // An answer taken apart for C: its number to return, its values into the lent numbers.
 ghost use mathlib.Core.List.{[], _∷_};
 ghost use Rattle.permuter.specs.Answers.{saidChanged, saidInserted, saidTold, saidMade};
-ghost use Rattle.firmware.specs.Crossing.{Crossed};
+ghost use Rattle.crossing.specs.Crossing.{Crossed};
 use permuter::Changed;
 use permuter::Inserted;
 use permuter::Made;
 use permuter::Told;
 
-// A changed word.
+// Writes a changed word and returns 0; refused, writes nothing and returns the number.
 pub fn give_changed(answer: Changed, word: &mut u64) -> u64
     ensures { λ r. ⌜ Crossed (saidChanged answer) r (now (word .entry) ∷ []) (now (word .exit) ∷ []) ⌝ }
 {
@@ -20,7 +20,7 @@ pub fn give_changed(answer: Changed, word: &mut u64) -> u64
     }
 }
 
-// The word after an insertion, and the slot handed out.
+// Writes the word after an insertion and the slot handed out, and returns 0; refused, writes nothing and returns the number.
 pub fn give_inserted(answer: Inserted, word: &mut u64, slot: &mut usize) -> u64
     ensures { λ r. ⌜ Crossed (saidInserted answer) r
         (now (word .entry) ∷ now (slot .entry) ∷ []) (now (word .exit) ∷ now (slot .exit) ∷ []) ⌝ }
@@ -38,7 +38,7 @@ pub fn give_inserted(answer: Inserted, word: &mut u64, slot: &mut usize) -> u64
     }
 }
 
-// A number told of a word.
+// Writes a number told of a word and returns 0; refused, writes nothing and returns the number.
 pub fn give_told(answer: Told, told: &mut usize) -> u64
     ensures { λ r. ⌜ Crossed (saidTold answer) r (now (told .entry) ∷ []) (now (told .exit) ∷ []) ⌝ }
 {
@@ -51,7 +51,7 @@ pub fn give_told(answer: Told, told: &mut usize) -> u64
     }
 }
 
-// A word that was made.
+// Writes a word that was made and returns 0; refused, writes nothing and returns the number.
 pub fn give_made(answer: Made, word: &mut u64) -> u64
     ensures { λ r. ⌜ Crossed (saidMade answer) r (now (word .entry) ∷ []) (now (word .exit) ∷ []) ⌝ }
 {

@@ -19,7 +19,7 @@ use Rattle.slot_answers.specs.declared.Told.the-variants as T
 use Rattle.slot_answers.specs.declared.Made.{Made}
 use Rattle.slot_answers.specs.declared.Made.the-variants as M
 use Rattle.permuter.specs.Answers.{saidChanged, saidInserted, saidTold, saidMade}
-use Rattle.firmware.specs.Crossing.{writtenIf, Crossed}
+use Rattle.crossing.specs.Crossing.{writtenIf, Crossed}
 
 -- a refusal returns its number, and what was lent stays
 refusal-crosses : (why : Refusal) (back lent : List ℕ) {r : ℕ} → r ≡ numberOf why →
