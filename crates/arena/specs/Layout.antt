@@ -1,6 +1,7 @@
 -- Where nodes and cells stand in lent memory and what stands in them, passed on from the crate of the nodes and cells.
 pub use Rattle.lent_nodes.specs.Layout.{
   nodeStart,
+  nodeEnd,
   nodeAt,
   putNode,
   wordAt,
@@ -17,7 +18,9 @@ pub use Rattle.lent_nodes.specs.Layout.{
   WholeLeaf,
   WholeInternode,
   cellStart,
+  cellEnd,
   keyStart,
+  keyEnd,
   cellAt,
   bytesAt,
   markAt,

@@ -4,6 +4,7 @@ use mathlib.Core.Bool.{Bool, cond, _&&_}
 use mathlib.Core.List.{List, [], _∷_}
 use lib.ListN.{length}
 use lib.Dec.{leb, eqb}
+use Rattle.memory_layout.specs.Numbers.{headerWords, nodeWords, cellWords, cellBytes, mostLent}
 use Rattle.refusal.specs.Answer.{Answer, accepted, refused, answered, _unless_}
 use Rattle.lent_nodes.specs.declared.inside.Leaf.{Leaf}
 use Rattle.arena.specs.declared.Measured.{Measured}
@@ -25,21 +26,22 @@ memory nodes cells bytes = record { nodes = nodes; cells = cells; bytes = bytes 
 
 -- N, by the length of `nodes`
 abbrev pub nodeCount : ℕ → ℕ
-nodeCount len = (len - 2) / 47
+nodeCount len = (len - headerWords) / nodeWords
 
 -- C, by the length of `cells`
 abbrev pub cellCount : ℕ → ℕ
-cellCount len = len / 2
+cellCount len = len / cellWords
 
 -- a number from 1 to 255
 abbrev pub upTo255 : ℕ → Bool
-upTo255 n = leb 1 n && leb n 255
+upTo255 n = leb 1 n && leb n mostLent
 
 -- 2 + 47 N words, 2 C words and 256 C bytes, with N and C from 1 to 255
 unfoldable pub rightLengths : ℕ → ℕ → ℕ → Bool
 rightLengths nodes cells bytes =
     upTo255 (nodeCount nodes) && upTo255 (cellCount cells)
-    && eqb nodes (2 + nodeCount nodes * 47) && eqb cells (cellCount cells * 2) && eqb bytes (cellCount cells * 256)
+    && eqb nodes (headerWords + nodeCount nodes * nodeWords) && eqb cells (cellCount cells * cellWords)
+    && eqb bytes (cellCount cells * cellBytes)
 
 -- refusal 10 for wrong lent lengths; else N and C
 unfoldable pub measured : ℕ → ℕ → ℕ → Answer
@@ -58,7 +60,8 @@ emptyLeaf =
 
 -- root 0, node 0 an empty leaf, everything else zero
 abbrev pub emptied : ℕ → ℕ → Memory
-emptied n c = memory (putLeaf (zeros (2 + n * 47)) 0 emptyLeaf) (zeros (c * 2)) (zeros (c * 256))
+emptied n c =
+    memory (putLeaf (zeros (headerWords + n * nodeWords)) 0 emptyLeaf) (zeros (c * cellWords)) (zeros (c * cellBytes))
 
 -- an answer, and memory behind it
 pub record Did : Type 0 where

@@ -6,6 +6,11 @@ ghost use mathlib.Core.Path.{_≡_};
 ghost use lib.ListN.{length};
 ghost use Rattle.arena.specs.Memory.{memory, did, measured, cleared, saidMeasured, saidCleared};
 use inside::Leaf;
+use memory_layout::CELL_BYTES;
+use memory_layout::CELL_WORDS;
+use memory_layout::HEADER_WORDS;
+use memory_layout::MOST_LENT;
+use memory_layout::NODE_WORDS;
 use refusal::Refusal;
 
 // The slot word of an empty leaf, width 15.
@@ -37,24 +42,24 @@ pub fn measure(nodes: usize, cells: usize, bytes: usize) -> Measured
     if nodes < 49 {
         return Measured::Refused(Refusal::Memory);
     }
-    let n = (nodes - 2) / 47;
-    if 255 < n {
+    let n = (nodes - HEADER_WORDS) / NODE_WORDS;
+    if MOST_LENT < n {
         return Measured::Refused(Refusal::Memory);
     }
-    if nodes != 2 + n * 47 {
+    if nodes != HEADER_WORDS + n * NODE_WORDS {
         return Measured::Refused(Refusal::Memory);
     }
-    let c = cells / 2;
+    let c = cells / CELL_WORDS;
     if c < 1 {
         return Measured::Refused(Refusal::Memory);
     }
-    if 255 < c {
+    if MOST_LENT < c {
         return Measured::Refused(Refusal::Memory);
     }
-    if cells != c * 2 {
+    if cells != c * CELL_WORDS {
         return Measured::Refused(Refusal::Memory);
     }
-    if bytes != c * 256 {
+    if bytes != c * CELL_BYTES {
         return Measured::Refused(Refusal::Memory);
     }
     Measured::Fit { nodes: n, cells: c }
@@ -62,7 +67,8 @@ pub fn measure(nodes: usize, cells: usize, bytes: usize) -> Measured
 
 // Leaves node 0, an empty leaf, as root, and everything else zero.
 pub fn clear(nodes: &mut [u64], cells: &mut [u64], bytes: &mut [u8]) -> Cleared
-    ensures { λ r. ⌜ did (saidCleared r) (memory (now (nodes .exit)) (now (cells .exit)) (now (bytes .exit))) ≡ cleared (memory (now (nodes .entry)) (now (cells .entry)) (now (bytes .entry))) ⌝ }
+    ensures { λ r. ⌜ did (saidCleared r) (memory (now (nodes .exit)) (now (cells .exit)) (now (bytes .exit)))
+        ≡ cleared (memory (now (nodes .entry)) (now (cells .entry)) (now (bytes .entry))) ⌝ }
 {
     if let Measured::Refused(why) = lengths(nodes, cells, bytes) {
         return Cleared::Refused(why);

@@ -20,7 +20,8 @@ use Rattle.arena.specs.Memory.{memory, nodeCount, cellCount, rightLengths, meas
 use Rattle.arena.proofs.Measures.{Right, fit-means, right-if}
 use Rattle.forest.specs.Walk.{Seen, walkLayer, restFree, walkedWell, isTree}
 use Rattle.walk.specs.Steps.{told, Lent}
-use Rattle.audit.specs.Audit.{audited, LentAll}
+use Rattle.audit_seen.specs.Seen.{LentAll}
+use Rattle.audit.specs.Audit.{audited}
 
 module _ (nodes cells bytes : List ℕ) {r : Measured} (e : saidMeasured r ≡ measured (length nodes) (length cells) (length bytes)) where
   wrong : {why : Refusal} → r ≡ M.Refused why → rightLengths (length nodes) (length cells) (length bytes) ≡ false

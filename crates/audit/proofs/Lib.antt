@@ -1,3 +1,2 @@
-pub mod Rests
 pub mod Judging
 pub mod One

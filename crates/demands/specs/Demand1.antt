@@ -32,7 +32,7 @@ use Rattle.lent_leaf.specs.Search.{lentSearchRules, lentSearchSaid}
 use Rattle.arena.specs.Memory.{Memory, nodeCount, cellCount, rightLengths, measured, Did, cleared}
 use Rattle.arena.proofs.Refused.{clear-says, clear-kept}
 use Rattle.forest.specs.Walk.{isTree}
-use Rattle.audit.specs.Audit.{audited}
+use Rattle.audit_said.specs.Audited.{audited}
 use Rattle.model.specs.Calls as index
 use Rattle.model.proofs.Refused.{kept-if-refused}
 
@@ -41,8 +41,8 @@ use Rattle.model.proofs.Refused.{kept-if-refused}
 -- Calls that hand a word back (from_value, set_size, swap_free_slots, insert_from_back, remove, remove_to_back, remove_slot, exchange,
 -- rotate): 1 for the width, 2 for the word, then what the call needs (`changeRules`: 4, 5 and 6).
 pub word-changes : (w word : ℕ) (c : Change)
-    → AsRuled (wordRules w word (changeRules c (bankOf w word))) (wordOf (after c (bankOf w word)) ∷ handedOut c (bankOf w word)) (word ∷ [])
-    (changed w word c)
+    → AsRuled (wordRules w word (changeRules c (bankOf w word))) (wordOf (after c (bankOf w word)) ∷ handedOut c (bankOf w word))
+    (word ∷ []) (changed w word c)
 unfolding changed listedAbove
 word-changes w word c = as-ruled (changes-listed c (bankOf w word))
 
@@ -140,7 +140,8 @@ pub clears : (m : Memory) → KeepsMemory (clearRules m) [] m (cleared m)
 unfolding listedAbove
 clears m = record { ruled = subst (AsRuled (clearRules m) [] []) (sym (clear-says m)) (as-ruled tt); kept = clear-kept m }
 
--- ---- the index: what `isTree`, `stored`, `frameOf` and `inKeyOrder` mean on any lent memory stands in Meaning.antt, and `hasRoom` in Demand2.antt
+-- ---- the index: what `isTree`, `stored`, `frameOf` and `inKeyOrder` mean on any lent memory stands in Meaning.antt, and `hasRoom` in
+-- Demand2.antt
 
 -- Find and the k-th entry change no byte: 7, 10, 12; and 10, 12.
 abbrev pub findRules : Memory → List ℕ → List Rule

@@ -21,8 +21,8 @@ use Rattle.key_layer.specs.Keys.{Compare, CompareSuffix, UnshiftAll, told, answ
 use Rattle.key_layer.proofs.Fitting.{Fitting, fitting}
 use Rattle.key.specs.declared.Part.{Part}
 use Rattle.key.specs.Parts.{saidPart, suffixSaid, dataSaid, LiesFrom, IsSuffix, IsData}
-use Rattle.held_key.specs.declared.Key.{Key}
-use Rattle.held_key.specs.declared.Keyed.{Keyed}
+use Rattle.keys_held.specs.declared.Key.{Key}
+use Rattle.keys_held.specs.declared.Keyed.{Keyed}
 use Rattle.held_key.specs.Held.{answerOf, keyedOf, saidKeyed}
 use Rattle.held_key.proofs.One.{moved-said, back-said}
 

@@ -66,5 +66,6 @@ table =
 
 -- each answer is the one that document 01 gives
 pub as-document-01-says : map (λ (e : Example). e .ours) table ≡ map (λ (e : Example). e .theirs) table
-unfolding turned count eachOnce listed valid sorted pack nibbles changed madeSorted madeEmpty validWord bytewise bigEndian ikeyAt compareKeysSaid numbersAt newSaid rising first good findSaid
+unfolding turned count eachOnce listed valid sorted pack nibbles changed madeSorted madeEmpty validWord bytewise bigEndian ikeyAt
+    compareKeysSaid numbersAt newSaid rising first good findSaid
 as-document-01-says = refl

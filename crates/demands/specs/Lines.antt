@@ -2,8 +2,8 @@
 -- each once, in whatever parts the input comes.
 --
 -- `printed m command` is what the answer to a line is proved to be, to the byte, and `left m command` the memory that it leaves
--- (crates/lines/specs/Answered.antt); `read line` is the command of a line (crates/text/specs/Command.antt), `heard m call` what the caller
--- of the index hears. What reaches a file no contract can say; that is compared.
+-- (crates/lines_said/specs/Said.antt); `read line` is the command of a line (crates/text/specs/Command.antt), `heard m call` what the
+-- caller of the index hears. What reaches a file no contract can say; that is compared.
 use Prim.Native.Nat.{ℕ, _+_, _≤_}
 use mathlib.Core.Path.{_≡_}
 use mathlib.Core.Bool.{true}
@@ -15,11 +15,11 @@ use Rattle.as_map.specs.Calls as calls
 use Rattle.as_map.specs.Calls.{heard}
 use Rattle.text.specs.Command.{put, find, del, list}
 use Rattle.line_input.specs.Input.{linesOf, inOne, unlessEmpty}
-use Rattle.lines.specs.Answered.{printed, left}
+use Rattle.lines_said.specs.Said.{printed, left}
 use Rattle.lines_as_map.specs.Text.{mapText, shown}
 use Rattle.lines_as_map.proofs.Prints as prints
-use Rattle.each_line.specs.Parts.{leftBy, PartDone, PartsDone}
-use Rattle.each_line.proofs.Inputs as inputs
+use Rattle.lines_parts.specs.Parts.{leftBy, PartDone, PartsDone}
+use Rattle.lines_parts.proofs.Inputs as inputs
 
 -- On any lent memory that is a tree, `list` prints the map: how many entries there are, then a line `KEY FRAME` for each, in key order. It
 -- changes nothing.

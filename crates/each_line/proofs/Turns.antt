@@ -16,14 +16,10 @@ use Rattle.text.specs.Command.{read}
 use Rattle.line_input.specs.declared.inside.Taken.{Taken}
 use Rattle.line_input.specs.Input.{takenFrom, takenOver, linesIn, heldAfter, unlessEmpty}
 use Rattle.lines.specs.Answered.{left}
+use Rattle.lines_parts.proofs.Inputs.{left-append}
 use Rattle.each_line.specs.Parts.{leftBy, linesHere, heldHere, PartDone}
 
 -- ---- lines carried out
-
-pub left-append : (m : Memory) (ls ks : List (List ℕ)) → leftBy m (ls ++ ks) ≡ leftBy (leftBy m ls) ks
-unfolding leftBy
-left-append m [] ks = refl
-left-append m (l ∷ ls) ks = left-append (left m (read l)) ls ks
 
 -- one line more
 left-more : (m : Memory) (ls : List (List ℕ)) (k : ℕ) (l : List ℕ) (rest : List (List ℕ)) → drop k ls ≡ l ∷ rest

@@ -25,7 +25,8 @@ fn answer(
     out: &mut [u8],
 ) -> bool
     requires { ⌜ 136182 ≤ length (now out) ⌝ }
-    ensures { λ r. ⌜ memory (now (nodes .exit)) (now (cells .exit)) (now (bytes .exit)) ≡ left (memory (now (nodes .entry)) (now (cells .entry)) (now (bytes .entry))) (read (now (line .entry))) ⌝ }
+    ensures { λ r. ⌜ memory (now (nodes .exit)) (now (cells .exit)) (now (bytes .exit))
+        ≡ left (memory (now (nodes .entry)) (now (cells .entry)) (now (bytes .entry))) (read (now (line .entry))) ⌝ }
 {
     let n = lines::inside::answer(nodes, cells, bytes, line, out);
     io::write_all(1, &out[..n])
@@ -44,7 +45,9 @@ pub fn answer_part(
 ) -> Done
     requires { ⌜ (kept ≤ 1201) × (1201 ≤ length (now line)) × (136182 ≤ length (now out)) ⌝ }
     ensures { λ r. ⌜ r .kept ≤ 1201 ⌝ }
-    ensures { λ r. ⌜ PartDone (memory (now (nodes .entry)) (now (cells .entry)) (now (bytes .entry))) (take kept (now (line .entry))) (now (part .entry)) (r .answered) (r .failed) (memory (now (nodes .exit)) (now (cells .exit)) (now (bytes .exit))) (take (r .kept) (now (line .exit))) ⌝ }
+    ensures { λ r. ⌜ PartDone (memory (now (nodes .entry)) (now (cells .entry)) (now (bytes .entry)))
+        (take kept (now (line .entry))) (now (part .entry)) (r .answered) (r .failed)
+        (memory (now (nodes .exit)) (now (cells .exit)) (now (bytes .exit))) (take (r .kept) (now (line .exit))) ⌝ }
 {
     let mut from = 0;
     let mut held = kept;
@@ -84,7 +87,9 @@ pub fn answer_last(
     out: &mut [u8],
 ) -> bool
     requires { ⌜ (kept ≤ length (now line)) × (136182 ≤ length (now out)) ⌝ }
-    ensures { λ r. ⌜ memory (now (nodes .exit)) (now (cells .exit)) (now (bytes .exit)) ≡ leftBy (memory (now (nodes .entry)) (now (cells .entry)) (now (bytes .entry))) (unlessEmpty (take kept (now (line .entry)))) ⌝ }
+    ensures { λ r. ⌜ memory (now (nodes .exit)) (now (cells .exit)) (now (bytes .exit))
+        ≡ leftBy (memory (now (nodes .entry)) (now (cells .entry)) (now (bytes .entry)))
+        (unlessEmpty (take kept (now (line .entry)))) ⌝ }
 {
     if 0 < kept {
         return answer(nodes, cells, bytes, &line[..kept], out);

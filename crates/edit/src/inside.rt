@@ -3,13 +3,11 @@ ghost use mathlib.Core.Path.{_≡_};
 ghost use mathlib.Core.List.{_∷_, _++_};
 ghost use Prim.Native.Nat.{_+_, _-_, _*_, _≤_, _<_};
 ghost use lib.ListN.{length, getD, set, take, drop};
-ghost use Rattle.bank.specs.Calls.{remove};
-ghost use Rattle.permuter.specs.Words.{changed, madeSorted};
+ghost use Rattle.memory_layout.specs.Numbers.{mostNodeWords};
 ghost use Rattle.internode.specs.Node.{childPlace};
 ghost use Rattle.leaf.specs.Leaf.{rank};
 ghost use Rattle.leaf.specs.Search.{placeGreater};
-ghost use Rattle.leaf.specs.Cut.{cutOf};
-ghost use Rattle.arena.specs.Layout.{nodeStart};
+ghost use Rattle.arena.specs.Layout.{nodeStart, nodeEnd};
 ghost use Rattle.forest.specs.Nodes.{entriesAt, countAt};
 ghost use Rattle.model.specs.Leaves.{freshNode, entryPut, entryTaken, leafWith, fifteenAt, leafSplit, leafGrown};
 ghost use Rattle.model.specs.Internodes.{internodeIn, internodePut, internodeSplit, internodeGrown, overTwo};
@@ -18,13 +16,19 @@ use arena::inside::Lowest;
 use internode::Internode;
 use leaf::Entry;
 use leaf::inside::size_of;
+use memory_layout::CLASSES;
+use memory_layout::HEADER_WORDS;
+use memory_layout::IKEYS;
+use memory_layout::NODE_WORDS;
+use memory_layout::REFS;
 use model::Grown;
 use node_words::inside::entry_of;
 use node_words::inside::slot_of;
 use node_words::inside::word_of;
-use permuter::Changed;
+pub use nodes_cut::inside::cut;
+use nodes_cut::inside::sorted_word;
+use nodes_cut::inside::without;
 use permuter::Inserted;
-use permuter::Made;
 
 // ---- words
 
@@ -56,20 +60,20 @@ pub fn put_entry(nodes: &mut [u64], k: usize, slot: usize, e: Entry)
     requires { ⌜ (k < 255) × (slot < 16) ⌝ }
     ensures { λ _. ⌜ now (nodes .exit) ≡ entryPut (now (nodes .entry)) k slot e ⌝ }
 {
-    let at = 2 + k * 47;
-    put_at(nodes, at + 2 + slot, e.ikey);
-    put_at(nodes, at + 17 + slot, e.class);
-    put_at(nodes, at + 32 + slot, e.at);
+    let at = HEADER_WORDS + k * NODE_WORDS;
+    put_at(nodes, at + IKEYS + slot, e.ikey);
+    put_at(nodes, at + CLASSES + slot, e.class);
+    put_at(nodes, at + REFS + slot, e.at);
 }
 
 // Takes the entry at position p out of leaf k: its slot is free and zero again.
 pub fn take_entry(nodes: &mut [u64], k: usize, p: usize)
-    requires { ⌜ (length (now nodes) ≤ 11987) × (k < 255) × (p < 15) ⌝ }
+    requires { ⌜ (length (now nodes) ≤ mostNodeWords) × (k < 255) × (p < 15) ⌝ }
     ensures { λ _. ⌜ now (nodes .exit) ≡ entryTaken (now (nodes .entry)) k p ⌝ }
 {
     let word = word_of(nodes, k as u64, 1);
     let slot = slot_of(word, p);
-    put_at(nodes, 2 + k * 47 + 1, without(word, p));
+    put_at(nodes, HEADER_WORDS + k * NODE_WORDS + 1, without(word, p));
     put_entry(
         nodes,
         k,
@@ -82,19 +86,9 @@ pub fn take_entry(nodes: &mut [u64], k: usize, p: usize)
     );
 }
 
-// The slot word after `remove` at position p; as it was where that is refused.
-fn without(word: u64, p: usize) -> u64
-    ensures { λ r. ⌜ r ≡ getD (changed 15 word (remove p) .values) 0 0 ⌝ }
-{
-    match permuter::remove(word, 15, p) {
-        Changed::Word(after) => after,
-        Changed::Refused { why: _, word: same } => same,
-    }
-}
-
 // The position where an entry belongs: the first whose entry is greater, or the size.
 pub fn place_greater(nodes: &[u64], k: usize, e: Entry) -> usize
-    requires { ⌜ (length (now nodes) ≤ 11987) × (k < 255) ⌝ }
+    requires { ⌜ (length (now nodes) ≤ mostNodeWords) × (k < 255) ⌝ }
     ensures { λ r. ⌜ (r ≡ placeGreater (e .ikey) (rank e) (entriesAt (now (nodes .entry)) k)) × (r ≤ 15) ⌝ }
 {
     let word = word_of(nodes, k as u64, 1);
@@ -137,20 +131,9 @@ pub fn leaf_of(entries: [Entry; 16], from: usize, n: usize) -> Leaf
     }
 }
 
-// The slot word of a leaf with slots 0 to n-1 in use, in order.
-fn sorted_word(n: usize) -> u64
-    requires { ⌜ n ≤ 15 ⌝ }
-    ensures { λ r. ⌜ r ≡ getD (madeSorted 15 n .values) 0 0 ⌝ }
-{
-    let Made::Word(word) = permuter::make_sorted(15, n) else {
-        return 0;
-    };
-    word
-}
-
 // The entries at all fifteen positions of leaf k, with one more put in at position p.
 pub fn sixteen(nodes: &[u64], k: usize, p: usize, e: Entry) -> [Entry; 16]
-    requires { ⌜ (length (now nodes) ≤ 11987) × (k < 255) × (p ≤ 15) ⌝ }
+    requires { ⌜ (length (now nodes) ≤ mostNodeWords) × (k < 255) × (p ≤ 15) ⌝ }
     ensures { λ r. ⌜ r ≡ take p (fifteenAt (now (nodes .entry)) k) ++ e ∷ drop p (fifteenAt (now (nodes .entry)) k) ⌝ }
 {
     let word = word_of(nodes, k as u64, 1);
@@ -178,24 +161,6 @@ pub fn sixteen(nodes: &[u64], k: usize, p: usize, e: Entry) -> [Entry; 16]
     all
 }
 
-// Where sixteen entries are cut: the ikeys on both sides differ, nearest to 8, the lower on a tie.
-pub fn cut(entries: [Entry; 16]) -> usize
-    ensures { λ r. ⌜ (r ≡ cutOf entries) × (1 ≤ r) × (r ≤ 15) ⌝ }
-{
-    let mut far: usize = 0;
-    // No cut less than `far` away from 8 has different ikeys on its sides.
-    while far < 8 {
-        if entries[8 - far - 1].ikey != entries[8 - far].ikey {
-            return 8 - far;
-        }
-        if entries[8 + far - 1].ikey != entries[8 + far].ikey {
-            return 8 + far;
-        }
-        far += 1;
-    }
-    8
-}
-
 // Writes sixteen entries to two leaves: k, and on its right the lowest free node.
 pub fn split_leaf(nodes: &mut [u64], count: usize, k: usize, entries: [Entry; 16]) -> Grown
     requires { ⌜ (nodeStart count ≡ length (now nodes)) × (k < count) × (count ≤ 255) ⌝ }
@@ -218,7 +183,7 @@ pub fn grow_leaf(nodes: &mut [u64], count: usize, k: usize, e: Entry) -> Grown
     ensures { λ r. ⌜ (now (nodes .exit), r) ≡ leafGrown (now (nodes .entry)) count k e ⌝ }
 {
     let p = place_greater(nodes, k, e);
-    let at = 2 + k * 47;
+    let at = HEADER_WORDS + k * NODE_WORDS;
     if let Inserted::Slot { word, slot } = permuter::insert_from_back(nodes[at + 1], 15, p) {
         put_at(nodes, at + 1, word);
         put_entry(nodes, k, slot, e);
@@ -232,7 +197,7 @@ pub fn grow_leaf(nodes: &mut [u64], count: usize, k: usize, e: Entry) -> Grown
 
 // Internode k by value.
 pub fn load(nodes: &[u64], k: usize) -> Internode
-    requires { ⌜ nodeStart k + 47 ≤ length (now nodes) ⌝ }
+    requires { ⌜ nodeEnd k ≤ length (now nodes) ⌝ }
     ensures { λ r. ⌜ r ≡ internodeIn (now (nodes .entry)) k ⌝ }
 {
     let x = arena::inside::load_internode(nodes, k);
@@ -244,7 +209,7 @@ pub fn load(nodes: &[u64], k: usize) -> Internode
 
 // Writes an internode to node k.
 pub fn store(nodes: &mut [u64], k: usize, x: Internode)
-    requires { ⌜ nodeStart k + 47 ≤ length (now nodes) ⌝ }
+    requires { ⌜ nodeEnd k ≤ length (now nodes) ⌝ }
     ensures { λ _. ⌜ now (nodes .exit) ≡ internodePut (now (nodes .entry)) k x ⌝ }
 {
     let n = x.n as u64;

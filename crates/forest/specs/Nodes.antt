@@ -4,6 +4,7 @@ use mathlib.Core.Bool.{Bool, true, false, _&&_}
 use mathlib.Core.List.{List, map}
 use lib.Dec.{leb, eqb}
 use lib.ListN.{drop}
+use Rattle.memory_layout.specs.Numbers.{ikeysFrom, classesFrom, refsFrom, childrenFrom}
 use Rattle.bank.specs.Bank.{Bank}
 use Rattle.nibbles.specs.Words.{validWord}
 use Rattle.internode.specs.Lists as internode
@@ -22,7 +23,7 @@ allZero xs = every (λ x. eqb x 0) xs
 -- the entry in slot s of node k: its ikey, class and number, from the three columns
 abbrev pub entryAt : List ℕ → ℕ → ℕ → Entry
 entryAt nodes k s =
-    record { ikey = wordAt nodes k (2 + s); class = wordAt nodes k (17 + s); at = wordAt nodes k (32 + s) }
+    record { ikey = wordAt nodes k (ikeysFrom + s); class = wordAt nodes k (classesFrom + s); at = wordAt nodes k (refsFrom + s) }
 
 -- the slots that are not in use
 abbrev pub notInUse : Bank → List ℕ
@@ -67,7 +68,7 @@ ikeysAt nodes k = part nodes (nodeStart k + 2) (countAt nodes k)
 
 -- its children, one more than its ikeys
 unfoldable pub childrenAt : List ℕ → ℕ → List ℕ
-childrenAt nodes k = part nodes (nodeStart k + 17) (countAt nodes k + 1)
+childrenAt nodes k = part nodes (nodeStart k + childrenFrom) (countAt nodes k + 1)
 
 -- an internode: 0 to 15 strictly rising ikeys and one child more, and places not in use are zero
 unfoldable pub internodeRight : List ℕ → ℕ → Bool

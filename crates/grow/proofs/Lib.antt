@@ -1,3 +1,2 @@
 pub mod Needed
-pub mod Nodes
 pub mod Layers

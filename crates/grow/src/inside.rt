@@ -4,20 +4,25 @@ ghost use mathlib.Core.Path.{_≡_};
 ghost use mathlib.Core.List.{[], _∷_};
 ghost use Prim.Native.Nat.{_+_, _-_, _≤_};
 ghost use lib.ListN.{length, take};
-ghost use Rattle.arena.specs.Layout.{nodeStart, putLeaf};
+ghost use Rattle.memory_layout.specs.Numbers.{mostNodeWords};
+ghost use Rattle.arena.specs.Layout.{nodeStart, nodeEnd, putLeaf};
 ghost use Rattle.model.specs.Leaves.{leafWith};
 ghost use Rattle.model.specs.Needed.{splitToo, needIn, bothGoOn, layersOf};
-ghost use Rattle.model.specs.Grow.{nodeGrown, layerGrown, entryFor, inOrder, linkFor, bothPut, layersGrown};
+ghost use Rattle.model.specs.Grow.{entryFor, inOrder, linkFor, bothPut, layersGrown};
+pub use index_grow_layer::inside::grow_layer;
+pub use index_grow_node::inside::grow_node;
 use leaf::Entry;
 use leaf::inside::size_of;
-use model::Grown;
+use memory_layout::HEADER_WORDS;
+use memory_layout::NODE_WORDS;
+use memory_layout::REFS;
 use node_words::inside::word_of;
 
 // ---- what is needed
 
 // How many nodes an entry more takes in a layer: one for each full node from the leaf upward, and one for a new root if all are full.
 pub fn need(nodes: &[u64], height: usize, root: u64, ikey: u64) -> usize
-    requires { ⌜ (length (now nodes) ≤ 11987) × (height ≤ 255) ⌝ }
+    requires { ⌜ (length (now nodes) ≤ mostNodeWords) × (height ≤ 255) ⌝ }
     ensures { λ r. ⌜ r ≡ needIn (now (nodes .entry)) height root ikey 1 ⌝ }
 {
     let mut n = root;
@@ -75,43 +80,6 @@ pub fn both_go_on(key: &[u8], other: &[u8], links: usize) -> bool
     ikey::read_ikey(key, 8 * links) == ikey::read_ikey(other, 8 * links)
 }
 
-// ---- an entry more
-
-// Adds an entry to the leaf for it, below a node of this height; tells whether that node became two.
-pub fn grow_node(nodes: &mut [u64], count: usize, height: usize, n: u64, e: Entry) -> Grown
-    requires { ⌜ (nodeStart count ≡ length (now nodes)) × (1 ≤ count) × (count ≤ 255) ⌝ }
-    ensures { λ r. ⌜ (now (nodes .exit), r) ≡ nodeGrown (now (nodes .entry)) count height n e ⌝ }
-{
-    if count as u64 <= n {
-        return Grown::One;
-    }
-    let k = n as usize;
-    if height == 0 {
-        return edit::inside::grow_leaf(nodes, count, k, e);
-    }
-    let child = seek::inside::child_for(nodes, n, e.ikey);
-    let grown = grow_node(nodes, count, height - 1, child, e);
-    if let Grown::Two { ikey, node } = grown {
-        return edit::inside::grow_internode(nodes, count, k, ikey, node);
-    }
-    Grown::One
-}
-
-// Adds an entry to the layer whose root's number stands in the word `holder`; where the root becomes two, a new one goes above them.
-pub fn grow_layer(nodes: &mut [u64], count: usize, holder: usize, root: u64, e: Entry)
-    requires { ⌜ (nodeStart count ≡ length (now nodes)) × (1 ≤ count) × (count ≤ 255) ⌝ }
-    ensures { λ _. ⌜ now (nodes .exit) ≡ layerGrown (now (nodes .entry)) count holder root e ⌝ }
-{
-    let height = shape::inside::height(nodes, count, root);
-    let grown = grow_node(nodes, count, height, root, e);
-    let Grown::Two { ikey, node } = grown else {
-        return;
-    };
-    let top = edit::inside::lowest(nodes, count);
-    edit::inside::store(nodes, top, edit::inside::over_two(root, ikey, node));
-    edit::inside::put_at(nodes, holder, top as u64);
-}
-
 // ---- a conflict
 
 // The entry of a key with its cell, at a layer.
@@ -144,7 +112,7 @@ fn two_of(a: Entry, b: Entry) -> [Entry; 16]
 
 // Writes a leaf with one link to node k; the number of the layer below is filled in later.
 fn put_link(nodes: &mut [u64], k: usize, key: &[u8], links: usize)
-    requires { ⌜ (nodeStart k + 47 ≤ length (now nodes)) × (links ≤ 32) ⌝ }
+    requires { ⌜ (nodeEnd k ≤ length (now nodes)) × (links ≤ 32) ⌝ }
     ensures { λ _. ⌜ now (nodes .exit) ≡ putLeaf (now (nodes .entry)) k (leafWith (linkFor (now (key .entry)) links ∷ [])) ⌝ }
 {
     let link = Entry {
@@ -166,8 +134,9 @@ fn put_both(
     other_cell: u64,
     links: usize,
 )
-    requires { ⌜ (nodeStart k + 47 ≤ length (now nodes)) × (links ≤ 32) ⌝ }
-    ensures { λ _. ⌜ now (nodes .exit) ≡ bothPut (now (nodes .entry)) k (record { key = now (key .entry); cell = cell }) (record { key = now (other .entry); cell = «other_cell» }) links ⌝ }
+    requires { ⌜ (nodeEnd k ≤ length (now nodes)) × (links ≤ 32) ⌝ }
+    ensures { λ _. ⌜ now (nodes .exit) ≡ bothPut (now (nodes .entry)) k (record { key = now (key .entry); cell = cell })
+        (record { key = now (other .entry); cell = «other_cell» }) links ⌝ }
 {
     let two = two_of(
         entry_for(key, cell, links),
@@ -189,7 +158,8 @@ pub fn grow_layers(
     links: usize,
 )
     requires { ⌜ (nodeStart count ≡ length (now nodes)) × (1 ≤ count) × (count ≤ 255) × (links ≤ 32) ⌝ }
-    ensures { λ _. ⌜ now (nodes .exit) ≡ layersGrown (31 - links) (now (nodes .entry)) count holder (record { key = now (key .entry); cell = cell }) (record { key = now (other .entry); cell = «other_cell» }) links ⌝ }
+    ensures { λ _. ⌜ now (nodes .exit) ≡ layersGrown (31 - links) (now (nodes .entry)) count holder
+        (record { key = now (key .entry); cell = cell }) (record { key = now (other .entry); cell = «other_cell» }) links ⌝ }
 {
     let k = edit::inside::lowest(nodes, count);
     edit::inside::put_at(nodes, holder, k as u64);
@@ -205,7 +175,7 @@ pub fn grow_layers(
     grow_layers(
         nodes,
         count,
-        2 + k * 47 + 32,
+        HEADER_WORDS + k * NODE_WORDS + REFS,
         key,
         cell,
         other,

@@ -23,12 +23,12 @@ use denote.Triple.Statement.{Contract}
 use denote.Triple.Clauses.{ensured, lasts}
 use denote.Triple.Entry.{Vals, onEntry}
 use denote.Triple.Spec.{tripleOf}
-use Rattle.held_key.specs.Held.{holding}
-use Rattle.held_key.specs.declared.Keyed.{Keyed}
-use Rattle.held_key.specs.declared.Numbers.{Numbers}
-use Rattle.held_key.proofs.Whole.{OwnSlice}
-use Rattle.held_key.proofs.Numbers as N
-use Rattle.held_key.proofs.hold as h
+use Rattle.keys_held.specs.Held.{holding}
+use Rattle.keys_held.specs.declared.Keyed.{Keyed}
+use Rattle.keys_moved_numbers.specs.declared.Numbers.{Numbers}
+use Rattle.keys_held.proofs.Whole.{OwnSlice}
+use Rattle.keys_moved_numbers.proofs.Numbers as N
+use Rattle.keys_held.proofs.hold as h
 
 module _ {M : Type 1} (𝓤 : URA M) (H : Heap 𝓤) (A : Atoms 𝓤) (mem : Memory → SProp 𝓤) (run : Routine → Fun 𝓤) where
   -- its contract

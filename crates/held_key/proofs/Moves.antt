@@ -4,7 +4,7 @@
 --     answer           what the plain call says, and with it both contracts
 --     moves            where the callee meets its contract, the function meets its own. A function's proof is this at its callee
 -- All that the walk knows of the callee is that it meets its contract. A key is Copy: one copy of what it owns is kept whole for the
--- exit (`Whole.antt`).
+-- exit (`Whole.antt` of crate `keys_held`).
 -- Assumes nothing.
 use mathlib.Core.Path.{_≡_, refl, ap, _∙_}
 use Prim.Native.Nat.{ℕ}
@@ -45,20 +45,21 @@ use denote.Triple.Spec.{Meets, tripleOf}
 use denote.Triple.Walked.{says, Stays, stay-none, walkOf, goes-none, Walks, ends-at, walked, walk-meets}
 use denote.Exit.{yes}
 use Rattle.refusal.specs.Answer.{Answer}
-use Rattle.held_key.specs.Held.{numbersIn, holding, keyedOf}
-use Rattle.held_key.specs.declared.Key.{Key}
-use Rattle.held_key.specs.declared.Keyed.{Keyed}
-use Rattle.held_key.specs.declared.Numbers.{Numbers}
-use Rattle.held_key.proofs.Whole.{OwnSlice, OwnKey, Passed, apart, taken}
+use Rattle.keys_moved_numbers.specs.Numbers.{numbersIn}
+use Rattle.keys_held.specs.Held.{holding, keyedOf}
+use Rattle.keys_held.specs.declared.Key.{Key}
+use Rattle.keys_held.specs.declared.Keyed.{Keyed}
+use Rattle.keys_moved_numbers.specs.declared.Numbers.{Numbers}
+use Rattle.keys_held.proofs.Whole.{OwnSlice, OwnKey, Passed, apart, taken}
 use Rattle.held_key.proofs.Holding.{Hold, to-hold, asks-hold, held}
-use Rattle.held_key.proofs.hold as h
-use Rattle.held_key.proofs.hold.Symbol.{name as #hold}
-use Rattle.held_key.proofs.Key as T
-use Rattle.held_key.proofs.Key.Laws as T′
-use Rattle.held_key.proofs.Keyed as K
-use Rattle.held_key.proofs.Keyed.Laws as K′
-use Rattle.held_key.proofs.Numbers as N
-use Rattle.held_key.proofs.Numbers.Laws as N′
+use Rattle.keys_held.proofs.hold as h
+use Rattle.keys_held.proofs.hold.Symbol.{name as #hold}
+use Rattle.keys_held.proofs.Key as T
+use Rattle.keys_held.proofs.Key.Laws as T′
+use Rattle.keys_held.proofs.Keyed as K
+use Rattle.keys_held.proofs.Keyed.Laws as K′
+use Rattle.keys_moved_numbers.proofs.Numbers as N
+use Rattle.keys_moved_numbers.proofs.Numbers.Laws as N′
 
 -- the signature of a function that moves a key, and that of its callee
 abbrev pub signature : Signature

@@ -11,8 +11,8 @@ use denote.Ref.{RefT, now}
 use Rattle.refusal.specs.Answer.{Answer, Rule, accepted, refused, answered, _unless_}
 use Rattle.refusal.specs.declared.Refusal.the-variants as no
 use Rattle.key_layer.specs.Keys.{numbersAt, fits, asked, moved, newSaid}
-use Rattle.held_key.specs.declared.Keyed.{Keyed}
-use Rattle.held_key.specs.Held.{keyedOf, saidKeyed}
+use Rattle.keys_held.specs.declared.Keyed.{Keyed}
+use Rattle.keys_held.specs.Held.{keyedOf, saidKeyed}
 
 -- one answer and one slice give one key
 pub keyed-one : (s : RefT (List ℕ)) (said : Answer) (a b : Keyed) → a ≡ keyedOf s said → b ≡ keyedOf s said → a ≡ b

@@ -1,4 +1,3 @@
 pub mod Lent
-pub mod Removing
 pub mod Putting
 pub mod One

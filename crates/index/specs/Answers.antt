@@ -2,17 +2,11 @@
 use mathlib.Core.List.{[]}
 use Rattle.refusal.specs.Answer.{Answer, accepted, refused}
 pub use Rattle.index_questions.specs.Answers.{saidFound, saidListed}
+pub use Rattle.index_remove.specs.Answers.{saidRemoved}
 use Rattle.index.specs.declared.Added.{Added}
 use Rattle.index.specs.declared.Added.the-variants as added-is
-use Rattle.index.specs.declared.Removed.{Removed}
-use Rattle.index.specs.declared.Removed.the-variants as removed-is
 
 -- 0, or the number of a refusal
 abbrev pub saidAdded : Added → Answer
 saidAdded added-is.Done = accepted []
 saidAdded (added-is.Refused why) = refused why []
-
--- 0, or the number of a refusal
-abbrev pub saidRemoved : Removed → Answer
-saidRemoved removed-is.Done = accepted []
-saidRemoved (removed-is.Refused why) = refused why []

@@ -5,13 +5,14 @@ ghost use lib.ListN.{length};
 ghost use Rattle.arena.specs.Layout.{markAt, frameAt};
 ghost use Rattle.arena.specs.Memory.{cellCount};
 use crate::Listed;
+use memory_layout::CELL_WORDS;
 
 // What k-th tells of a cell: its number, the length of its key, its frame number; 0 for what lent memory does not have.
 pub(crate) fn entry_at(cells: &[u64], cell: u64) -> Listed
     requires { ⌜ length (now cells) ≡ cellCount (length (now cells)) * 2 ⌝ }
     ensures { λ r. ⌜ r ≡ Listed.Entry cell (markAt (now (cells .entry)) cell - 1) (frameAt (now (cells .entry)) cell) ⌝ }
 {
-    if (cells.len() / 2) as u64 <= cell {
+    if (cells.len() / CELL_WORDS) as u64 <= cell {
         return Listed::Entry {
             cell,
             length: 0,

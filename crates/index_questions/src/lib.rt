@@ -6,12 +6,13 @@ ghost use mathlib.Core.Path.{_≡_};
 ghost use Rattle.arena.specs.Memory.{memory};
 ghost use Rattle.model.specs.Calls.{findSaid, kthSaid};
 ghost use Rattle.index_questions.specs.Answers.{saidFound, saidListed};
+use memory_layout::CELL_BYTES;
 use model::Met;
 use model::Reached;
 use refusal::Refusal;
 
 // The most bytes that a key has.
-const LONGEST: usize = 256;
+const LONGEST: usize = CELL_BYTES;
 
 // The frame number of a key.
 pub enum Found {

@@ -55,7 +55,8 @@ pub fn shift_from(
 // So many ikeys of a node from a place on, and the children beside them.
 pub fn part(node: Internode, from: usize, count: usize) -> Internode
     requires { ⌜ from + count ≤ 15 ⌝ }
-    ensures { λ r. ⌜ (r .n ≡ count) × (r ≡ nodeOf (take count (drop from (node .ikeys))) (take (count + 1) (drop from (node .children)))) ⌝ }
+    ensures { λ r. ⌜ (r .n ≡ count) × (r ≡ nodeOf (take count (drop from (node .ikeys)))
+        (take (count + 1) (drop from (node .children)))) ⌝ }
 {
     let first = node.children[from];
     let mut children = [0u64; 16];

@@ -189,14 +189,3 @@ pub ruleset moving = (
   new-long,
   new-at,
 )
-
-pub ruleset parts = (
-  suffix-none,
-  suffix-none-at,
-  suffix-some,
-  suffix-some-at,
-  data-none,
-  data-none-at,
-  data-all,
-  data-all-at,
-)

@@ -132,8 +132,14 @@ module _ (bytes : List ℕ) (i s p : ℕ) {r : Bool} (e : r ≡ fits bytes i s p
   pub suffix-within : p ≤ length bytes
   suffix-within = omega (arith, fitting .start)
 
-  pub back-within : 8 * (s - 1) ≤ length bytes
-  back-within = omega (arith, fitting .within)
+  pub here-within : 8 * s ≤ length bytes
+  here-within = fitting .within
+
+  pub back-within : (k : ℕ) → 8 * (s - k) ≤ length bytes
+  back-within k = omega (arith, fitting .within)
+
+  pub shifts-within : s ≤ length bytes
+  shifts-within = omega (arith, fitting .within)
 
   module _ (by : ℕ) {a : Bool} (f : a ≡ shiftable bytes s by) (h : a ≡ true) where
     pub shiftable-within : 8 * (s + by / 8) ≤ length bytes
@@ -151,4 +157,4 @@ module _ (bytes : List ℕ) (i s p : ℕ) {r : Bool} (e : r ≡ fits bytes i s p
 
 pub ruleset fittings = (reached-first, reached-later, reached-told, fits-long, fits-beyond, fits-other, fits-last, layer-short, layer-long)
 
-pub ruleset withins = (suffix-within, back-within, shiftable-within, shiftable-fits)
+pub ruleset withins = (suffix-within, here-within, back-within, shifts-within, shiftable-within, shiftable-fits)

@@ -1,4 +1,5 @@
-// A key's numbers at a layer, and the answers of the calls on keys: what the crates above share, the questions, the moves and the parts.
+// A key's numbers at a layer, and the answers of the calls on keys: what the crates above share. The definitions of all of them, and the
+// laws by which they are proved, stand here too.
 use ikey::Ordering;
 use refusal::Refusal;
 

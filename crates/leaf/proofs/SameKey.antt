@@ -13,8 +13,8 @@ use Rattle.order.specs.Layer.{ikeyAt, classAt, atLayer}
 use Rattle.order.proofs.Bytes.{bytewise-same, bytewise-exact}
 use Rattle.order.proofs.Compare.{compare-eq}
 use Rattle.order.proofs.Layer.{layer-at}
-use Rattle.key.specs.Keys.{fits}
-use Rattle.key.proofs.Fitting.{fitting}
+use Rattle.key_layer.specs.Keys.{fits}
+use Rattle.key_layer.proofs.Fitting.{fitting}
 use Rattle.leaf_entries.specs.declared.Entry.{Entry}
 use Rattle.leaf.specs.Leaf.{none, rank}
 use Rattle.leaf.specs.Search.{storedKey, storedSuffix, Belongs, Says}

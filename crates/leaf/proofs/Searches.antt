@@ -18,8 +18,8 @@ use Rattle.order.specs.Layer.{classOf, classAt}
 use Rattle.ikey.specs.declared.Ordering.{Ordering as Ordered}
 use Rattle.ikey.specs.declared.Ordering.the-variants.{Less, Equal, Greater}
 use Rattle.ikey.specs.Said.{orderOf}
-use Rattle.key.specs.Keys.{fits}
-use Rattle.key.proofs.Fitting.{suffix-within}
+use Rattle.key_layer.specs.Keys.{fits}
+use Rattle.key_layer.proofs.Fitting.{suffix-within}
 use Rattle.lent_cells.proofs.Cells.{lent-right, cell-right}
 pub use Rattle.lent_cells.proofs.Cells.{suffix-less, suffix-equal, suffix-greater}
 use Rattle.leaf_entries.specs.declared.Entry.{Entry}

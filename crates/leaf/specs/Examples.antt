@@ -9,7 +9,7 @@ use Rattle.bank.specs.Bank.{valid, sorted}
 use Rattle.nibbles.specs.Nibbles.{pack, nibbles}
 use Rattle.nibbles.specs.Words.{wordOf, validWord}
 use Rattle.order.specs.Layer.{bigEndian, ikeyAt}
-use Rattle.key.specs.Keys.{suffixAt, fits, reached}
+use Rattle.key_layer.specs.Keys.{suffixAt, fits, reached}
 use Rattle.leaf_entries.specs.declared.Entry.{Entry}
 use Rattle.leaf.specs.Lists.{every, firstWhere}
 use Rattle.leaf.specs.Leaf.{viewed, laid, rising, lentRight, cellRight, ofKind, goodEntries}
@@ -28,12 +28,14 @@ withIkeys ikeys = map (λ k. record { ikey = k; class = 0; at = 0 }) ikeys
 
 -- `61` is not found, and belongs before `6100`
 pub filed-before : searchedFor (0x61 ∷ []) ≡ accepted (notFound 0)
-unfolding searchSaid outcome every firstWhere viewed rising lentRight cellRight ofKind goodEntries validWord valid eachOnce count nibbles pack sorted listed fits reached ikeyAt bigEndian
+unfolding searchSaid outcome every firstWhere viewed rising lentRight cellRight ofKind goodEntries validWord valid eachOnce count
+    nibbles pack sorted listed fits reached ikeyAt bigEndian
 filed-before = refl
 
 -- `6100` is found, in slot 0
 pub found-there : searchedFor (0x61 ∷ 0x00 ∷ []) ≡ accepted (found 0)
-unfolding searchSaid outcome metWith every firstWhere viewed rising lentRight cellRight ofKind goodEntries validWord valid eachOnce count nibbles pack sorted listed fits reached ikeyAt bigEndian
+unfolding searchSaid outcome metWith every firstWhere viewed rising lentRight cellRight ofKind goodEntries validWord valid eachOnce
+    count nibbles pack sorted listed fits reached ikeyAt bigEndian
 found-there = refl
 
 -- seven, two and seven of an ikey: 7 and 9 are equally near, and the lower is the cut

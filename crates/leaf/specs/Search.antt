@@ -10,7 +10,7 @@ use Rattle.bank.specs.Bank.{slotAt}
 use Rattle.nibbles.specs.Words.{validWord}
 use Rattle.order.specs.Bytes.{Bytes}
 use Rattle.order.specs.Layer.{ikeyAt, classAt}
-use Rattle.key.specs.Keys.{fits}
+use Rattle.key_layer.specs.Keys.{fits}
 pub use Rattle.lent_cells.specs.Cells.{storedKey, sameBytes}
 unfoldable pub use Rattle.lent_cells.specs.Cells.{storedSuffix}
 use Rattle.leaf_entries.specs.declared.Entry.{Entry}

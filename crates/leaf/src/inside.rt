@@ -55,7 +55,7 @@ pub fn not_lent(
 ) -> Searched
     ensures { λ r. ⌜ saidSearched r ≡ unlentSaid word (now (key .entry)) ikey «shift_count» «suffix_start» ⌝ }
 {
-    if !key::inside::is_fit(key, ikey, shift_count, suffix_start) {
+    if !keys_fit::is_fit(key, ikey, shift_count, suffix_start) {
         return refuse(Refusal::Key, word, ikey, shift_count, suffix_start);
     }
     refuse(Refusal::Memory, word, ikey, shift_count, suffix_start)
@@ -90,10 +90,12 @@ pub fn scan(
     suffix_start: usize,
 ) -> Searched
     requires { ⌜ Searchable word entries (now cells) (now bytes) (now key) ikey «shift_count» «suffix_start» ⌝ }
-    ensures { λ r. ⌜ saidSearched r ≡ accepted (outcome word entries (now (cells .entry)) (now (bytes .entry)) (now (key .entry)) ikey (classAt (now (key .entry)) (8 * «shift_count»)) «suffix_start») ⌝ }
+    ensures { λ r. ⌜ saidSearched r ≡ accepted
+        (outcome word entries (now (cells .entry)) (now (bytes .entry)) (now (key .entry)) ikey
+        (classAt (now (key .entry)) (8 * «shift_count»)) «suffix_start») ⌝ }
 {
     let size = size_of(word);
-    let length = key::inside::left(key, shift_count);
+    let length = key_layer::inside::left(key, shift_count);
     let mut i: usize = 0;
     // The key is greater than every entry before position i.
     while i < size {
@@ -128,12 +130,13 @@ pub fn in_lent(
     suffix_start: usize,
 ) -> Searched
     requires { ⌜ (validWord 15 word ≡ true) × (lentRight (now cells) (now bytes) ≡ true) ⌝ }
-    ensures { λ r. ⌜ saidSearched r ≡ lentSaid word entries (now (cells .entry)) (now (bytes .entry)) (now (key .entry)) ikey «shift_count» «suffix_start» ⌝ }
+    ensures { λ r. ⌜ saidSearched r ≡ lentSaid word entries (now (cells .entry)) (now (bytes .entry)) (now (key .entry)) ikey
+        «shift_count» «suffix_start» ⌝ }
 {
     if !are_good(word, entries, cells) {
         return refuse(Refusal::Node, word, ikey, shift_count, suffix_start);
     }
-    if !key::inside::is_fit(key, ikey, shift_count, suffix_start) {
+    if !keys_fit::is_fit(key, ikey, shift_count, suffix_start) {
         return refuse(Refusal::Key, word, ikey, shift_count, suffix_start);
     }
     scan(

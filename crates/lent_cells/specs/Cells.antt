@@ -5,27 +5,28 @@ use mathlib.Core.Bool.{Bool, _&&_}
 use mathlib.Core.List.{List}
 use lib.Dec.{leb, ltb, eqb, isEq}
 use lib.ListN.{length, getD, take, drop}
+use Rattle.memory_layout.specs.Numbers.{cellWords, cellBytes, mostLent}
 use Rattle.order.specs.Bytes.{bytewise}
 
 -- how many cells are lent: two words each, length + 1 (0 for a free cell) and the frame number
 abbrev pub cellsIn : List ℕ → ℕ
-cellsIn cells = length cells / 2
+cellsIn cells = length cells / cellWords
 
 -- the lent lengths are right: 1 to 255 cells of two words, and 256 bytes for each
 unfoldable pub lentRight : List ℕ → List ℕ → Bool
 lentRight cells bytes =
-    eqb (length cells % 2) 0
-    && (leb 1 (cellsIn cells) && (leb (cellsIn cells) 255 && eqb (length bytes) (256 * cellsIn cells)))
+    eqb (length cells % cellWords) 0
+    && (leb 1 (cellsIn cells) && (leb (cellsIn cells) mostLent && eqb (length bytes) (cellBytes * cellsIn cells)))
 
 -- what right lent lengths say
 pub record Lent (cells bytes : List ℕ) : Type 0 where
   pub some : 1 ≤ cellsIn cells
-  pub few : cellsIn cells ≤ 255
-  pub room : length bytes ≡ 256 * cellsIn cells
+  pub few : cellsIn cells ≤ mostLent
+  pub room : length bytes ≡ cellBytes * cellsIn cells
 
 -- the length + 1 of a cell
 abbrev pub lengthWord : List ℕ → ℕ → ℕ
-lengthWord cells cell = getD cells (2 * cell) 0
+lengthWord cells cell = getD cells (cellWords * cell) 0
 
 -- a cell that an entry may have: one of those lent, not free, of at most 256 bytes
 unfoldable pub cellRight : List ℕ → ℕ → Bool
@@ -40,7 +41,7 @@ pub record Cell (cells : List ℕ) (cell : ℕ) : Type 0 where
 
 -- the stored key: the cell's bytes up to its length
 abbrev pub storedKey : List ℕ → List ℕ → ℕ → List ℕ
-storedKey cells bytes cell = take (lengthWord cells cell - 1) (drop (256 * cell) bytes)
+storedKey cells bytes cell = take (lengthWord cells cell - 1) (drop (cellBytes * cell) bytes)
 
 -- the stored suffix: the cell's bytes from the key's suffix start on, or none
 unfoldable pub storedSuffix : List ℕ → List ℕ → ℕ → ℕ → List ℕ

@@ -9,7 +9,7 @@ use borrow.Author.Tests.{eq-eqb, ne-eqb, not-true, not-false}
 use Rattle.refusal.specs.Answer.{Answer, refused, answered, _unless_}
 use Rattle.refusal.specs.declared.Refusal.the-variants.{Node}
 use Rattle.nibbles.specs.Words.{validWord}
-use Rattle.key.specs.Keys.{fits}
+use Rattle.key_layer.specs.Keys.{fits}
 use Rattle.leaf_entries.specs.declared.Entry.{Entry}
 use Rattle.leaf.specs.Search.{givenBack, searchSaid, unlentSaid}
 use Rattle.lent_leaf.specs.Search.{lentSearchSaid, otherCountSaid}

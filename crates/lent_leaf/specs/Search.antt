@@ -7,7 +7,7 @@ use lib.ListN.{length}
 use Rattle.refusal.specs.Answer.{Answer, Rule, answered, _unless_}
 use Rattle.nibbles.specs.Words.{validWord}
 use Rattle.order.specs.Layer.{classAt}
-use Rattle.key.specs.Keys.{fits}
+use Rattle.key_layer.specs.Keys.{fits}
 use Rattle.leaf_entries.specs.declared.Entry.{Entry}
 use Rattle.leaf.specs.Leaf.{inOrder, lentRight, goodEntries}
 use Rattle.leaf.specs.Search.{outcome, givenBack}

@@ -19,7 +19,8 @@ pub fn search(
     shift_count: usize,
     suffix_start: usize,
 ) -> Searched
-    ensures { λ r. ⌜ saidSearched r ≡ lentSearchSaid word (now (entries .entry)) (now (cells .entry)) (now (bytes .entry)) (now (key .entry)) ikey «shift_count» «suffix_start» ⌝ }
+    ensures { λ r. ⌜ saidSearched r ≡ lentSearchSaid word (now (entries .entry)) (now (cells .entry)) (now (bytes .entry))
+        (now (key .entry)) ikey «shift_count» «suffix_start» ⌝ }
 {
     if entries.len() != 15 {
         return inside::unlent(word, key, ikey, shift_count, suffix_start);

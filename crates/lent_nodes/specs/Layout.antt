@@ -5,17 +5,31 @@ use mathlib.Core.List.{List, [], _∷_, _++_}
 use lib.ListN.{length, getD}
 use Rattle.lent_nodes.specs.declared.inside.Leaf.{Leaf}
 use Rattle.lent_nodes.specs.declared.inside.Internode.{Internode}
+use Rattle.memory_layout.specs.Numbers.{
+  headerWords,
+  nodeWords,
+  ikeysFrom,
+  classesFrom,
+  refsFrom,
+  childrenFrom,
+  cellWords,
+  cellBytes,
+}
 use Rattle.lent_words.specs.Parts.{part, putPart, zeros}
 
 -- ---- nodes: two words, and then 47 for each node
 
 -- where node k starts
 abbrev pub nodeStart : ℕ → ℕ
-nodeStart k = 2 + k * 47
+nodeStart k = headerWords + k * nodeWords
+
+-- where node k ends
+abbrev pub nodeEnd : ℕ → ℕ
+nodeEnd k = nodeStart k + nodeWords
 
 -- the 47 words of node k
 abbrev pub nodeAt : List ℕ → ℕ → List ℕ
-nodeAt nodes k = part nodes (nodeStart k) 47
+nodeAt nodes k = part nodes (nodeStart k) nodeWords
 
 -- other words in the place of node k
 abbrev pub putNode : List ℕ → ℕ → List ℕ → List ℕ
@@ -36,7 +50,7 @@ rootOf nodes = getD nodes 0 0
 -- a leaf by its 47 words: the slot word, and three columns of fifteen
 unfoldable pub leafOf : List ℕ → Leaf
 leafOf ws =
-    record { word = getD ws 1 0; ikeys = part ws 2 15; classes = part ws 17 15; refs = part ws 32 15 }
+    record { word = getD ws 1 0; ikeys = part ws ikeysFrom 15; classes = part ws classesFrom 15; refs = part ws refsFrom 15 }
 
 -- the 47 words of a leaf
 abbrev pub leafWords : Leaf → List ℕ
@@ -44,7 +58,7 @@ leafWords l = 1 ∷ l .word ∷ (l .ikeys ++ l .classes ++ l .refs)
 
 -- an internode by its 47 words: the number of its ikeys, fifteen ikeys, sixteen children, and fourteen zeros
 unfoldable pub internodeOf : List ℕ → Internode
-internodeOf ws = record { n = getD ws 1 0; ikeys = part ws 2 15; children = part ws 17 16 }
+internodeOf ws = record { n = getD ws 1 0; ikeys = part ws ikeysFrom 15; children = part ws childrenFrom 16 }
 
 -- the 47 words of an internode
 abbrev pub internodeWords : Internode → List ℕ
@@ -52,7 +66,7 @@ internodeWords x = 2 ∷ x .n ∷ (x .ikeys ++ x .children ++ zeros 14)
 
 -- a free node
 abbrev pub freeWords : List ℕ
-freeWords = zeros 47
+freeWords = zeros nodeWords
 
 -- node k, read as a leaf
 abbrev pub leafAt : List ℕ → ℕ → Leaf
@@ -89,19 +103,27 @@ pub record WholeInternode (x : Internode) : Type 0 where
 
 -- where the words of cell k start
 abbrev pub cellStart : ℕ → ℕ
-cellStart k = k * 2
+cellStart k = k * cellWords
+
+-- where they end
+abbrev pub cellEnd : ℕ → ℕ
+cellEnd k = cellStart k + cellWords
 
 -- where the bytes of cell k start
 abbrev pub keyStart : ℕ → ℕ
-keyStart k = k * 256
+keyStart k = k * cellBytes
+
+-- where they end
+abbrev pub keyEnd : ℕ → ℕ
+keyEnd k = keyStart k + cellBytes
 
 -- the two words of cell k
 abbrev pub cellAt : List ℕ → ℕ → List ℕ
-cellAt cells k = part cells (cellStart k) 2
+cellAt cells k = part cells (cellStart k) cellWords
 
 -- the 256 bytes of cell k
 abbrev pub bytesAt : List ℕ → ℕ → List ℕ
-bytesAt bytes k = part bytes (keyStart k) 256
+bytesAt bytes k = part bytes (keyStart k) cellBytes
 
 -- the key's length plus 1, or 0 where the cell is free
 abbrev pub markAt : List ℕ → ℕ → ℕ
@@ -117,7 +139,7 @@ keyAt cells bytes k = part bytes (keyStart k) (markAt cells k - 1)
 
 -- a key, and zeros up to 256 bytes
 abbrev pub keyBytes : List ℕ → List ℕ
-keyBytes key = key ++ zeros (256 - length key)
+keyBytes key = key ++ zeros (cellBytes - length key)
 
 -- the words with a key of this length and a frame number in cell k
 abbrev pub putCell : List ℕ → ℕ → ℕ → ℕ → List ℕ
@@ -129,8 +151,8 @@ putKey bytes k key = putPart bytes (keyStart k) (keyBytes key)
 
 -- the words with cell k free
 abbrev pub freedCell : List ℕ → ℕ → List ℕ
-freedCell cells k = putPart cells (cellStart k) (zeros 2)
+freedCell cells k = putPart cells (cellStart k) (zeros cellWords)
 
 -- the bytes with those of cell k zero
 abbrev pub freedKey : List ℕ → ℕ → List ℕ
-freedKey bytes k = putPart bytes (keyStart k) (zeros 256)
+freedKey bytes k = putPart bytes (keyStart k) (zeros cellBytes)

@@ -22,7 +22,8 @@ fn least(a: usize, b: usize) -> usize
 // Goes on with a line of which so many bytes are kept, as far as its line feed or the end of the part.
 pub fn take_line(part: &[u8], line: &mut [u8], kept: usize) -> Taken
     requires { ⌜ (kept ≤ 1201) × (1201 ≤ length (now line)) ⌝ }
-    ensures { λ r. ⌜ (r ≡ takenFrom kept (now (part .entry))) × (now (line .exit) ≡ putPart (now (line .entry)) kept (takenOver kept (now (part .entry)))) ⌝ }
+    ensures { λ r. ⌜ (r ≡ takenFrom kept (now (part .entry)))
+        × (now (line .exit) ≡ putPart (now (line .entry)) kept (takenOver kept (now (part .entry)))) ⌝ }
     ensures { λ r. ⌜ (r .used ≤ length (now (part .entry))) × (min 1 (length (now (part .entry))) ≤ r .used) × (r .kept ≤ 1201) ⌝ }
 {
     let end = text::first(part, b'\n');

@@ -15,8 +15,8 @@ use Rattle.arena.specs.Memory.{Memory, Did, did}
 use Rattle.model.specs.Calls.{putDone, findSaid, removed}
 use Rattle.index.specs.declared.Added.{Added}
 use Rattle.index.specs.declared.Added.the-variants as added-is
-use Rattle.index.specs.declared.Removed.{Removed}
-use Rattle.index.specs.declared.Removed.the-variants as removed-is
+use Rattle.index_remove.specs.declared.Removed.{Removed}
+use Rattle.index_remove.specs.declared.Removed.the-variants as removed-is
 use Rattle.index_questions.specs.declared.Found.{Found}
 use Rattle.index_questions.specs.declared.Found.the-variants as found-is
 use Rattle.index.specs.Answers.{saidAdded, saidRemoved, saidFound}

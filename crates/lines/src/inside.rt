@@ -17,6 +17,7 @@ use index::Added;
 use index::Found;
 use index::Listed;
 use index::Removed;
+use memory_layout::CELL_BYTES;
 use refusal::Refusal;
 use text::inside::Line;
 
@@ -38,7 +39,9 @@ fn put(
     out: &mut [u8],
 ) -> usize
     requires { ⌜ 100 ≤ length (now out) ⌝ }
-    ensures { λ r. ⌜ Answered (memory (now (nodes .entry)) (now (cells .entry)) (now (bytes .entry))) (Command·put (now (key .entry)) frame) (now (out .entry)) r (memory (now (nodes .exit)) (now (cells .exit)) (now (bytes .exit))) (now (out .exit)) ⌝ }
+    ensures { λ r. ⌜ Answered (memory (now (nodes .entry)) (now (cells .entry)) (now (bytes .entry)))
+        (Command·put (now (key .entry)) frame) (now (out .entry)) r
+        (memory (now (nodes .exit)) (now (cells .exit)) (now (bytes .exit))) (now (out .exit)) ⌝ }
 {
     let answer = index::put(nodes, cells, bytes, key, frame);
     match answer {
@@ -50,7 +53,9 @@ fn put(
 // Takes a key out and prints `ok`, or the refusal.
 fn del(nodes: &mut [u64], cells: &mut [u64], bytes: &mut [u8], key: &[u8], out: &mut [u8]) -> usize
     requires { ⌜ 100 ≤ length (now out) ⌝ }
-    ensures { λ r. ⌜ Answered (memory (now (nodes .entry)) (now (cells .entry)) (now (bytes .entry))) (Command·del (now (key .entry))) (now (out .entry)) r (memory (now (nodes .exit)) (now (cells .exit)) (now (bytes .exit))) (now (out .exit)) ⌝ }
+    ensures { λ r. ⌜ Answered (memory (now (nodes .entry)) (now (cells .entry)) (now (bytes .entry)))
+        (Command·del (now (key .entry))) (now (out .entry)) r (memory (now (nodes .exit)) (now (cells .exit)) (now (bytes .exit)))
+        (now (out .exit)) ⌝ }
 {
     let answer = index::remove(nodes, cells, bytes, key);
     match answer {
@@ -62,7 +67,9 @@ fn del(nodes: &mut [u64], cells: &mut [u64], bytes: &mut [u8], key: &[u8], out: 
 // Prints the frame number of a key, or the refusal.
 fn find(nodes: &[u64], cells: &[u64], bytes: &[u8], key: &[u8], out: &mut [u8]) -> usize
     requires { ⌜ 100 ≤ length (now out) ⌝ }
-    ensures { λ r. ⌜ Typed (now (out .entry)) 0 (printed (memory (now (nodes .entry)) (now (cells .entry)) (now (bytes .entry))) (Command·find (now (key .entry)))) r (now (out .exit)) ⌝ }
+    ensures { λ r. ⌜ Typed (now (out .entry)) 0
+        (printed (memory (now (nodes .entry)) (now (cells .entry)) (now (bytes .entry))) (Command·find (now (key .entry)))) r
+        (now (out .exit)) ⌝ }
 {
     let answer = index::find(nodes, cells, bytes, key);
     match answer {
@@ -73,7 +80,8 @@ fn find(nodes: &[u64], cells: &[u64], bytes: &[u8], key: &[u8], out: &mut [u8]) 
 
 // How many entries a tree has, of which there are at most so many.
 fn count(nodes: &[u64], cells: &[u64], bytes: &[u8], most: u64) -> u64
-    requires { ⌜ (isTree (memory (now nodes) (now cells) (now bytes)) ≡ true) × (length (inKeyOrder (memory (now nodes) (now cells) (now bytes))) ≤ most) ⌝ }
+    requires { ⌜ (isTree (memory (now nodes) (now cells) (now bytes)) ≡ true)
+        × (length (inKeyOrder (memory (now nodes) (now cells) (now bytes))) ≤ most) ⌝ }
     ensures { λ r. ⌜ r ≡ length (inKeyOrder (memory (now (nodes .entry)) (now (cells .entry)) (now (bytes .entry)))) ⌝ }
 {
     let mut k: u64 = 0;
@@ -96,7 +104,7 @@ fn key_in<'a>(bytes: &'a [u8], cell: u64, length: u64) -> &'a [u8]
     if all as u64 / 256 < cell {
         return &bytes[all..all];
     }
-    let from = cell as usize * 256;
+    let from = cell as usize * CELL_BYTES;
     if ((all - from) as u64) < length {
         return &bytes[from..all];
     }
@@ -107,8 +115,11 @@ fn key_in<'a>(bytes: &'a [u8], cell: u64, length: u64) -> &'a [u8]
 fn entries(nodes: &[u64], cells: &[u64], bytes: &[u8], n: u64, out: &mut [u8], at: usize) -> usize
     requires { ⌜ isTree (memory (now nodes) (now cells) (now bytes)) ≡ true ⌝ }
     requires { ⌜ n ≡ length (inKeyOrder (memory (now nodes) (now cells) (now bytes))) ⌝ }
-    requires { ⌜ at + length (entryTexts (memory (now nodes) (now cells) (now bytes)) (inKeyOrder (memory (now nodes) (now cells) (now bytes)))) ≤ length (now out) ⌝ }
-    ensures { λ r. ⌜ Typed (now (out .entry)) at (entryTexts (memory (now (nodes .entry)) (now (cells .entry)) (now (bytes .entry))) (inKeyOrder (memory (now (nodes .entry)) (now (cells .entry)) (now (bytes .entry))))) r (now (out .exit)) ⌝ }
+    requires { ⌜ at + length (entryTexts (memory (now nodes) (now cells) (now bytes))
+        (inKeyOrder (memory (now nodes) (now cells) (now bytes)))) ≤ length (now out) ⌝ }
+    ensures { λ r. ⌜ Typed (now (out .entry)) at
+        (entryTexts (memory (now (nodes .entry)) (now (cells .entry)) (now (bytes .entry)))
+        (inKeyOrder (memory (now (nodes .entry)) (now (cells .entry)) (now (bytes .entry))))) r (now (out .exit)) ⌝ }
 {
     let mut next = at;
     let mut k: u64 = 0;
@@ -132,7 +143,8 @@ fn entries(nodes: &[u64], cells: &[u64], bytes: &[u8], n: u64, out: &mut [u8], a
 // Prints how many entries there are, and a line for each; or the refusal.
 fn list(nodes: &[u64], cells: &[u64], bytes: &[u8], out: &mut [u8]) -> usize
     requires { ⌜ Room (memory (now nodes) (now cells) (now bytes)) (now out) ⌝ }
-    ensures { λ r. ⌜ Typed (now (out .entry)) 0 (listed (memory (now (nodes .entry)) (now (cells .entry)) (now (bytes .entry)))) r (now (out .exit)) ⌝ }
+    ensures { λ r. ⌜ Typed (now (out .entry)) 0 (listed (memory (now (nodes .entry)) (now (cells .entry)) (now (bytes .entry)))) r
+        (now (out .exit)) ⌝ }
 {
     if !audit::is_tree(nodes, cells, bytes) {
         return refused(out, Refusal::Memory);
@@ -151,7 +163,8 @@ pub fn answer(
     out: &mut [u8],
 ) -> usize
     requires { ⌜ Room (memory (now nodes) (now cells) (now bytes)) (now out) ⌝ }
-    ensures { λ r. ⌜ Answered (memory (now (nodes .entry)) (now (cells .entry)) (now (bytes .entry))) (read (now (line .entry))) (now (out .entry)) r (memory (now (nodes .exit)) (now (cells .exit)) (now (bytes .exit))) (now (out .exit)) ⌝ }
+    ensures { λ r. ⌜ Answered (memory (now (nodes .entry)) (now (cells .entry)) (now (bytes .entry))) (read (now (line .entry)))
+        (now (out .entry)) r (memory (now (nodes .exit)) (now (cells .exit)) (now (bytes .exit))) (now (out .exit)) ⌝ }
 {
     let mut key = [0u8; 600];
     let asked = text::inside::read_line(line, &mut key);

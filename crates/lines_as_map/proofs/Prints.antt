@@ -17,8 +17,8 @@ use Rattle.as_map.specs.Calls as calls
 use Rattle.as_map.specs.Calls.{Heard, heardOf, heard}
 use Rattle.page.specs.Shown.{headerLine}
 use Rattle.text.specs.Command.{put, find, del, list}
-use Rattle.lines.specs.Answered as answered
-use Rattle.lines.specs.Answered.{printed, left, listed, unlessRefused, entryText, entryTexts}
+use Rattle.lines_said.specs.Said as answered
+use Rattle.lines_said.specs.Said.{printed, left, listed, unlessRefused, entryText, entryTexts}
 use Rattle.lines_as_map.specs.Text.{entryLines, mapText, shown}
 
 -- ---- the listing

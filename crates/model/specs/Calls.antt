@@ -4,6 +4,7 @@ use mathlib.Core.Bool.{Bool, true, false, cond, not, _&&_}
 use mathlib.Core.List.{List, [], _∷_}
 use lib.Dec.{leb, ltb, eqb}
 use lib.ListN.{length, getD, set}
+use Rattle.memory_layout.specs.Numbers.{classesFrom, cellBytes}
 use Rattle.refusal.specs.Answer.{Answer, Rule, _unless_, answered}
 use Rattle.arena.specs.Layout.{nodeStart, rootOf, markAt, frameAt, keyAt, putCell, putKey, freedCell, freedKey}
 use Rattle.arena.specs.Free.{freeNodes, freeCells}
@@ -44,7 +45,7 @@ stored m key = isStored (place m key)
 
 -- refusals 7 and 10, of every call with a key
 abbrev pub keyRules : Memory → List ℕ → List Rule → List Rule
-keyRules m key rules = (7 unless leb (length key) 256) ∷ (10 unless isTree m) ∷ rules
+keyRules m key rules = (7 unless leb (length key) cellBytes) ∷ (10 unless isTree m) ∷ rules
 
 -- ---- find
 
@@ -122,7 +123,7 @@ abbrev pub nodesWith : Memory → List ℕ → ℕ → Met → List ℕ
 nodesWith m key c (Stored leaf position cell) = m .nodes
 nodesWith m key c (Conflict leaf position cell links) =
     layersGrown (31 - suc links)
-    (set (m .nodes) (nodeStart leaf + 17 + slotAt position (slotsAt (m .nodes) leaf)) 10)
+    (set (m .nodes) (nodeStart leaf + classesFrom + slotAt position (slotsAt (m .nodes) leaf)) 10)
     (nodesOf m)
     (numberWord (m .nodes) leaf position)
     (record { key = key; cell = c })

@@ -4,6 +4,7 @@ use mathlib.Core.Bool.{cond}
 use mathlib.Core.List.{List, [], _∷_}
 use lib.Dec.{ltb}
 use lib.ListN.{length, set}
+use Rattle.memory_layout.specs.Numbers.{refsFrom}
 use Rattle.order.specs.Layer.{ikeyAt, classAt}
 use Rattle.leaf_entries.specs.declared.Entry.{Entry}
 use Rattle.leaf.specs.Leaf.{less}
@@ -72,5 +73,5 @@ layersGrown (suc l) nodes count holder a b links =
     cond (bothGoOn (a .key) (b .key) links)
     (layersGrown l
     (putLeaf (set nodes holder (freshNode nodes count)) (freshNode nodes count) (leafWith (linkFor (a .key) links ∷ [])))
-    count (nodeStart (freshNode nodes count) + 32) a b (suc links))
+    count (nodeStart (freshNode nodes count) + refsFrom) a b (suc links))
     (bothPut (set nodes holder (freshNode nodes count)) (freshNode nodes count) a b links)

@@ -3,6 +3,7 @@ use Prim.Native.Nat.{ℕ, _+_}
 use mathlib.Core.Bool.{cond}
 use mathlib.Core.List.{List, [], _∷_}
 use lib.Dec.{ltb}
+use Rattle.memory_layout.specs.Numbers.{childrenFrom}
 use Rattle.internode_places.specs.declared.Internode as internode
 use Rattle.internode.specs.Node.{childPlace, inserted}
 use Rattle.internode.specs.Split.{nodeOf, splitOf}
@@ -20,7 +21,7 @@ internodeIn nodes k =
     record {
       n = countAt nodes k;
       ikeys = part nodes (nodeStart k + 2) 15;
-      children = part nodes (nodeStart k + 17) 16;
+      children = part nodes (nodeStart k + childrenFrom) 16;
     }
 
 -- an internode in the place of node k

@@ -4,6 +4,7 @@ use mathlib.Core.Bool.{Bool, cond}
 use mathlib.Core.List.{List, [], _∷_, _++_, map}
 use lib.Dec.{eqb}
 use lib.ListN.{length, getD, set, take, drop}
+use Rattle.memory_layout.specs.Numbers.{ikeysFrom, classesFrom, refsFrom}
 use Rattle.refusal.specs.Answer.{Answer}
 use Rattle.bank.specs.Bank.{slotAt}
 use Rattle.bank.specs.Calls.{Change, insertFromBack, remove}
@@ -35,7 +36,8 @@ wordPut nodes k a = set nodes (nodeStart k + 1) (getD (a .values) 0 0)
 -- the three numbers of an entry in a slot of node k
 unfoldable pub entryPut : List ℕ → ℕ → ℕ → Entry → List ℕ
 entryPut nodes k slot e =
-    set (set (set nodes (nodeStart k + 2 + slot) (e .ikey)) (nodeStart k + 17 + slot) (e .class)) (nodeStart k + 32 + slot) (e .at)
+    set (set (set nodes (nodeStart k + ikeysFrom + slot) (e .ikey)) (nodeStart k + classesFrom + slot) (e .class))
+    (nodeStart k + refsFrom + slot) (e .at)
 
 -- an entry less: `remove` at its position, and its slot is zeroed
 unfoldable pub entryTaken : List ℕ → ℕ → ℕ → List ℕ

@@ -4,6 +4,7 @@ use mathlib.Core.Bool.{Bool, cond, _&&_}
 use mathlib.Core.List.{List}
 use lib.Dec.{ltb, eqb}
 use lib.ListN.{length, getD}
+use Rattle.memory_layout.specs.Numbers.{refsFrom}
 use Rattle.bank.specs.Bank.{slotAt}
 use Rattle.order.specs.Layer.{ikeyAt, classAt}
 use Rattle.leaf_entries.specs.declared.Entry.{Entry}
@@ -24,7 +25,7 @@ hasKey cells bytes c key =
 
 -- the word of memory that holds the number of an entry: for a link, that of the root below
 abbrev pub numberWord : List ℕ → ℕ → ℕ → ℕ
-numberWord nodes leaf position = nodeStart leaf + 32 + slotAt position (slotsAt nodes leaf)
+numberWord nodes leaf position = nodeStart leaf + refsFrom + slotAt position (slotsAt nodes leaf)
 
 -- at the entry of the key's ikey and class: the layer below a link, the key itself, or another key that is longer too
 unfoldable pub meetEntry : (ℕ → ℕ → ℕ → Met) → Memory → List ℕ → ℕ → ℕ → ℕ → Entry → Met

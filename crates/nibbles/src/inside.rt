@@ -2,6 +2,7 @@
 // `requires`.
 ghost use mathlib.Core.Path.{_≡_};
 ghost use Prim.Native.Nat.{ℕ, _+_, _-_, _*_, _/_, _%_, _^_, _≤_, _<_};
+ghost use lib.Bits.{bitOr};
 ghost use Rattle.bank.specs.Lists.{eachOnce};
 ghost use Rattle.nibbles.specs.Nibbles.{nibbles};
 ghost use Rattle.nibbles.specs.Words.{validWord};
@@ -56,26 +57,39 @@ pub fn size_of(word: u64) -> usize
     (word & 15) as usize
 }
 
-// Whether the sixteen nibbles are 0 to 15, once each: sixteen marks, and none is missing. A nibble is marked with two bits of the next
-// one above it, which spares a mask; the four copies of the marks are laid over each other at the end.
+// Whether the sixteen nibbles are 0 to 15, once each: sixteen marks, and none is missing. A nibble is marked with one bit of the next
+// one above it, which spares a mask; the two copies of the marks are laid over each other at the end. The halves go side by side: one
+// turn marks a nibble of each, and the highest nibble, which is not 0, ends the loop.
 pub fn each_once(x: u64) -> bool
+    requires { ⌜ 2 ^ 60 ≤ x ⌝ }
     ensures { λ r. ⌜ r ≡ eachOnce (nibbles 16 x) ⌝ }
 {
-    let mut marks: u64 = 0;
-    let mut rest = x;
-    let mut k: usize = 0;
-    // The first k nibbles are marked, and `rest` has the others.
-    while k < 16 {
-        marks = marks | (1u64 << (rest & 63));
-        rest = rest >> 4;
-        k += 1;
+    let mut marks: u32 = 0;
+    let mut low = x;
+    let mut high = x >> 32;
+    // As many nibbles of each half are marked, and `low` and `high` have the others.
+    loop {
+        marks = marks | (1u32 << (high & 31));
+        marks = marks | (1u32 << (low & 31));
+        low = low >> 4;
+        high = high >> 4;
+        if high == 0 {
+            break;
+        }
     }
-    let halves = marks | (marks >> 32);
-    let quarters = halves | (halves >> 16);
-    (quarters & 0xFFFF) == 0xFFFF
+    0xFFFE_FFFF < (marks | (marks << 16))
 }
 
-// Whether a word is valid. The places above the width are filled with their own numbers, so that one test fits every width.
+// The positions of a word, and from the width on each place with its own number.
+fn filled(word: u64, width: usize) -> u64
+    requires { ⌜ width ≤ 15 ⌝ }
+    ensures { λ r. ⌜ r ≡ bitOr (0xFEDCBA9876543210 / 2 ^ (4 * width) * 2 ^ (4 * width)) (word / 16) ⌝ }
+{
+    (high(RISING, width) << (4 * width)) | high(word, 1)
+}
+
+// Whether a word is valid. The places above the width are filled with their own numbers, so that one test fits every width. What stands
+// above the width, if anything, is looked at last: then nothing is kept for it while the nibbles are marked.
 pub fn valid(word: u64, width: usize) -> bool
     requires { ⌜ width ≤ 15 ⌝ }
     ensures { λ r. ⌜ r ≡ validWord width word ⌝ }
@@ -83,11 +97,11 @@ pub fn valid(word: u64, width: usize) -> bool
     if width < size_of(word) {
         return false;
     }
-    let slots = high(word, 1);
-    if high(slots, width) != 0 {
+    let once = each_once(filled(word, width));
+    if 15 < high(word, width) {
         return false;
     }
-    each_once(join(slots, high(RISING, width), width))
+    once
 }
 
 // Whether a word may be used at its width: refusal 1 for the width, 2 for the word.

@@ -5,7 +5,8 @@ ghost use mathlib.Core.List.{[], _∷_};
 ghost use Prim.Native.Nat.{_+_, _≤_, _<_};
 ghost use lib.ListN.{length};
 ghost use Rattle.page.specs.Page.{Typed};
-ghost use Rattle.page.specs.Shown.{decimal as Shown·decimal, hexOf, hexDigit, keyShown, okLine, badLine, refusedLine, numberLine, headerLine, entryLine};
+ghost use Rattle.page.specs.Shown.{decimal as Shown·decimal, hexOf, hexDigit, keyShown, okLine, badLine, refusedLine};
+ghost use Rattle.page.specs.Shown.{numberLine, headerLine, entryLine};
 
 // Appends bytes as they are.
 pub fn append(out: &mut [u8], at: usize, text: &[u8]) -> usize

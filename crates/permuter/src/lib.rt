@@ -2,11 +2,14 @@
 // goes in by value and comes back in the answer. Every call judges its width and its word, and refuses by number.
 // Insertion and removal are here; the questions, the places and the answers are passed on from the crates below.
 ghost use mathlib.Core.Path.{_≡_};
+ghost use mathlib.Core.List.{[], _∷_};
+ghost use Rattle.refusal.specs.Answer.{refused};
 ghost use Rattle.bank.specs.Calls.{insertFromBack, remove, removeToBack, removeSlot};
-ghost use Rattle.slot_answers.specs.Words.{changed};
+ghost use Rattle.slot_answers.specs.Words.{changed, refusedBy};
 ghost use Rattle.slot_answers.specs.Answers.{saidChanged, saidInserted};
 use nibbles::inside::Verdict;
 use nibbles::inside::judge;
+use nibbles::inside::valid;
 use refusal::Refusal;
 pub use slot_answers::Changed;
 pub use slot_answers::Inserted;
@@ -25,23 +28,33 @@ pub use slot_questions::make_sorted;
 pub use slot_questions::size;
 use turns::inside;
 
-// The slot at the back is put to use at position i.
+// The slot at the back is put to use at position i. Its own rules are tried first and the word last, so that an accepted call, the
+// usual one, judges once and does nothing for a refusal; which refusal has the lowest number is settled behind.
 pub fn insert_from_back(word: u64, width: usize, i: usize) -> Inserted
     ensures { λ r. ⌜ saidInserted r ≡ changed width word (insertFromBack i) ⌝ }
 {
-    if let Verdict::No(why) = judge(word, width) {
-        return Inserted::Refused { why, word };
-    }
     let size = inside::size_of(word);
     if size < i {
         return Inserted::Refused {
-            why: Refusal::Position,
+            why: first_refusal(word, width, Refusal::Position),
             word,
         };
     }
     if width <= size {
         return Inserted::Refused {
-            why: Refusal::Full,
+            why: first_refusal(word, width, Refusal::Full),
+            word,
+        };
+    }
+    if 15 < width {
+        return Inserted::Refused {
+            why: Refusal::Width,
+            word,
+        };
+    }
+    if !valid(word, width) {
+        return Inserted::Refused {
+            why: Refusal::Word,
             word,
         };
     }
@@ -49,6 +62,16 @@ pub fn insert_from_back(word: u64, width: usize, i: usize) -> Inserted
         word: inside::inserted(word, width, i),
         slot: inside::nibble(word, width),
     }
+}
+
+// Of a call that breaks a rule of its own: the refusal of its width or its word goes before.
+fn first_refusal(word: u64, width: usize, own: Refusal) -> Refusal
+    ensures { λ r. ⌜ refused r (word ∷ []) ≡ refusedBy width word own ⌝ }
+{
+    if let Verdict::No(why) = judge(word, width) {
+        return why;
+    }
+    own
 }
 
 // The slot at position i rests behind every other free one.

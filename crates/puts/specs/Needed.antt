@@ -6,6 +6,7 @@ use mathlib.Core.Logic.{inl, inr}
 use mathlib.Core.List.{List, [], _∷_, _++_}
 use lib.Dec.{eqb}
 use lib.ListN.{length}
+use Rattle.memory_layout.specs.Numbers.{nodeWords}
 use Rattle.bank.specs.Lists.{up}
 use Rattle.order.specs.Layer.{ikeyAt, classAt}
 use Rattle.order.specs.Map.{lookup}
@@ -79,4 +80,4 @@ neededNodes m v key = neededFrom (m .cells) (m .bytes) key 31 0 v
 
 -- memory with so many nodes more, all of them free
 abbrev pub lentMore : Memory → ℕ → Memory
-lentMore m k = memory (m .nodes ++ zeros (k * 47)) (m .cells) (m .bytes)
+lentMore m k = memory (m .nodes ++ zeros (k * nodeWords)) (m .cells) (m .bytes)

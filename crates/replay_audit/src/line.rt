@@ -3,6 +3,10 @@
 ghost use Prim.Native.Nat.{_<_};
 use crate::pace;
 use audit::Audited;
+use memory_layout::CELL_BYTES;
+use memory_layout::CELL_WORDS;
+use memory_layout::HEADER_WORDS;
+use memory_layout::NODE_WORDS;
 
 // How much of the memory is lent: words of nodes, words of cells, bytes.
 pub(crate) struct Lengths {
@@ -39,9 +43,9 @@ pub(crate) fn room_for(text: &[u8]) -> Lengths {
     let n = hex::four(text, 6) as usize;
     let c = hex::four(text, 22) as usize;
     Lengths {
-        nodes: 2 + n * 47,
-        cells: c * 2,
-        bytes: c * 256,
+        nodes: HEADER_WORDS + n * NODE_WORDS,
+        cells: c * CELL_WORDS,
+        bytes: c * CELL_BYTES,
     }
 }
 

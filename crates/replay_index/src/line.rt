@@ -7,6 +7,7 @@ use index::Added;
 use index::Found;
 use index::Listed;
 use index::Removed;
+use memory_layout::CELL_BYTES;
 
 // Which call the line records, by its first byte; 0 where the line is empty.
 pub(crate) fn call(text: &[u8]) -> u8 {
@@ -144,7 +145,7 @@ fn stands(bytes: &[u8], cell: u64, length: u64, key: &[u8]) -> bool {
     if 255 <= cell {
         return false;
     }
-    let from = cell as usize * 256;
+    let from = cell as usize * CELL_BYTES;
     let mut i: usize = 0;
     while i < key.len() {
         if bytes.len() <= from + i {

@@ -3,6 +3,10 @@
 mod line;
 mod sum;
 
+use memory_layout::CELL_BYTES;
+use memory_layout::CELL_WORDS;
+use memory_layout::HEADER_WORDS;
+use memory_layout::NODE_WORDS;
 use tally::Tally;
 
 // Replays every line of the input on memory with room for 256 nodes and cells, and tells how many differ.
@@ -59,9 +63,9 @@ fn replay_call(
     if 256 < c {
         return false;
     }
-    let a = 2 + n * 47;
-    let b = c * 2;
-    let d = c * 256;
+    let a = HEADER_WORDS + n * NODE_WORDS;
+    let b = c * CELL_WORDS;
+    let d = c * CELL_BYTES;
     if nodes.len() < a {
         return false;
     }

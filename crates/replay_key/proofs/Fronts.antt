@@ -38,9 +38,9 @@ use denote.Triple.Entry.{Args, Vals, onEntry}
 use denote.Triple.Spec.{Meets, tripleOf}
 use denote.Triple.Walked.{says, walkOf, goes-none, goes-none-slice, Walks, ends-at, walked, walk-meets}
 use denote.Exit.{yes}
-use Rattle.held_key.proofs.Asking.{Kind}
-use Rattle.held_key.proofs.Key as T
-use Rattle.held_key.proofs.Key.Laws as T′
+use Rattle.keys_held_bytes.proofs.Asking.{Kind}
+use Rattle.keys_held.proofs.Key as T
+use Rattle.keys_held.proofs.Key.Laws as T′
 use Rattle.replay_key.proofs.Making.{four, stayed, keyOf, key-typed, v, OwnAll, OwnKey, with-key}
 
 -- the MIR

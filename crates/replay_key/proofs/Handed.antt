@@ -15,14 +15,14 @@ use Rattle.key.specs.declared.Part.{Part}
 use Rattle.key.specs.Parts.{saidPart, suffixSaid, dataSaid, IsSuffix, IsData}
 use Rattle.key.proofs.Part as P
 use Rattle.key.proofs.Part.Laws as P′
-use Rattle.held_key.specs.declared.Keyed.{Keyed}
-use Rattle.held_key.specs.declared.Numbers.{Numbers}
+use Rattle.keys_held.specs.declared.Keyed.{Keyed}
+use Rattle.keys_moved_numbers.specs.declared.Numbers.{Numbers}
 use Rattle.held_key.specs.Held.{numbersIn, numbersHeld, keyedOf}
-use Rattle.held_key.proofs.Asking.{Kind}
-use Rattle.held_key.proofs.Keyed as K
-use Rattle.held_key.proofs.Keyed.Laws as K′
-use Rattle.held_key.proofs.Numbers as N
-use Rattle.held_key.proofs.Numbers.Laws as N′
+use Rattle.keys_held_bytes.proofs.Asking.{Kind}
+use Rattle.keys_held.proofs.Keyed as K
+use Rattle.keys_held.proofs.Keyed.Laws as K′
+use Rattle.keys_moved_numbers.proofs.Numbers as N
+use Rattle.keys_moved_numbers.proofs.Numbers.Laws as N′
 
 -- ---- what is had in a local, and what is handed out
 

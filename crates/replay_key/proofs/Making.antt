@@ -28,9 +28,9 @@ use denote.Steps.{owned, nothing}
 use denote.Struct.Rest.{own-shut}
 use denote.Triple.Walked.{Stays, stay-none, stay-none-slice}
 use denote.Exit.{yes}
-use Rattle.held_key.specs.declared.Key.{Key}
-use Rattle.held_key.proofs.Key as T
-use Rattle.held_key.proofs.Key.Laws as T′
+use Rattle.keys_held.specs.declared.Key.{Key}
+use Rattle.keys_held.proofs.Key as T
+use Rattle.keys_held.proofs.Key.Laws as T′
 
 -- the parameters, and that they stay as they were
 abbrev pub four : List (Slot 1)

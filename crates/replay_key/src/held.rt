@@ -311,7 +311,8 @@ pub fn compare_suffix(
     suffix_start: usize,
     other: &[u8],
 ) -> Compared
-    ensures { λ r. ⌜ saidCompared r ≡ answerTo (CompareSuffix (now (other .entry))) (now (bytes .entry)) ikey «shift_count» «suffix_start» ⌝ }
+    ensures { λ r. ⌜ saidCompared r ≡ answerTo (CompareSuffix (now (other .entry))) (now (bytes .entry)) ikey «shift_count»
+        «suffix_start» ⌝ }
 {
     held_key::compare_suffix(
         Key {

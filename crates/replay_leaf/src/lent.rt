@@ -15,7 +15,8 @@ pub fn search(
     shift_count: usize,
     suffix_start: usize,
 ) -> Searched
-    ensures { λ r. ⌜ saidSearched r ≡ searchSaid word entries (now (cells .entry)) (now (bytes .entry)) (now (key .entry)) ikey «shift_count» «suffix_start» ⌝ }
+    ensures { λ r. ⌜ saidSearched r ≡ searchSaid word entries (now (cells .entry)) (now (bytes .entry)) (now (key .entry)) ikey
+        «shift_count» «suffix_start» ⌝ }
 {
     lent_leaf::search(
         word,

@@ -4,6 +4,7 @@ ghost use mathlib.Core.Path.{_≡_};
 ghost use Prim.Native.Nat.{ℕ, _+_, _-_, _*_, _≤_, _<_};
 ghost use lib.Dec.{isEq};
 ghost use lib.ListN.{length, getD};
+ghost use Rattle.memory_layout.specs.Numbers.{mostNodeWords, refsFrom, childrenFrom};
 ghost use Rattle.bank.specs.Bank.{slotAt};
 ghost use Rattle.leaf.specs.Leaf.{slotsOf, against};
 ghost use Rattle.leaf.specs.Search.{placeEqual};
@@ -22,6 +23,12 @@ ghost use Rattle.seek.specs.Below.{layersBelow, cellsAt};
 use ikey::Ordering;
 use leaf::Entry;
 use leaf::inside::size_of;
+use memory_layout::CELL_WORDS;
+use memory_layout::CHILDREN;
+use memory_layout::HEADER_WORDS;
+use memory_layout::IKEYS;
+use memory_layout::NODE_WORDS;
+use memory_layout::REFS;
 use model::Met;
 use model::Reached;
 use node_words::inside::entry_of;
@@ -32,7 +39,7 @@ use node_words::inside::word_of;
 
 // The place after the last ikey of an internode that is not above this one.
 pub fn place_for(nodes: &[u64], n: u64, ikey: u64) -> usize
-    requires { ⌜ (length (now nodes) ≤ 11987) × (n < 255) ⌝ }
+    requires { ⌜ (length (now nodes) ≤ mostNodeWords) × (n < 255) ⌝ }
     ensures { λ r. ⌜ r ≡ placeAmong ikey (ikeysAt (now (nodes .entry)) n) ⌝ }
     ensures { λ r. ⌜ (r ≤ wordAt (now (nodes .entry)) n 1) × (r ≤ length (now (nodes .entry))) ⌝ }
 {
@@ -41,7 +48,7 @@ pub fn place_for(nodes: &[u64], n: u64, ikey: u64) -> usize
     let mut i: usize = 0;
     // `place` is the place after the last of the first i ikeys that is not above this one.
     while (i as u64) < count {
-        let at = 2 + n as usize * 47 + 2 + i;
+        let at = HEADER_WORDS + n as usize * NODE_WORDS + IKEYS + i;
         if nodes.len() <= at {
             return place;
         }
@@ -57,13 +64,13 @@ pub fn place_for(nodes: &[u64], n: u64, ikey: u64) -> usize
 
 // The child of an internode for an ikey.
 pub fn child_for(nodes: &[u64], n: u64, ikey: u64) -> u64
-    requires { ⌜ length (now nodes) ≤ 11987 ⌝ }
+    requires { ⌜ length (now nodes) ≤ mostNodeWords ⌝ }
     ensures { λ r. ⌜ r ≡ childFor (now (nodes .entry)) n ikey ⌝ }
 {
     if 255 <= n {
         return 0;
     }
-    let at = 2 + n as usize * 47 + 17 + place_for(nodes, n, ikey);
+    let at = HEADER_WORDS + n as usize * NODE_WORDS + CHILDREN + place_for(nodes, n, ikey);
     if nodes.len() <= at {
         return 0;
     }
@@ -72,7 +79,7 @@ pub fn child_for(nodes: &[u64], n: u64, ikey: u64) -> u64
 
 // The leaf for an ikey, from a node of this height down.
 pub fn leaf_for(nodes: &[u64], height: usize, node: u64, ikey: u64) -> u64
-    requires { ⌜ length (now nodes) ≤ 11987 ⌝ }
+    requires { ⌜ length (now nodes) ≤ mostNodeWords ⌝ }
     ensures { λ r. ⌜ r ≡ leafFor (now (nodes .entry)) height node ikey ⌝ }
 {
     let mut n = node;
@@ -99,7 +106,7 @@ pub fn is_same(ikey: u64, len: usize, e: Entry) -> bool
 
 // The first position whose entry has this ikey and the class of this length, or the size.
 pub fn place_equal(nodes: &[u64], n: u64, ikey: u64, len: usize) -> usize
-    requires { ⌜ length (now nodes) ≤ 11987 ⌝ }
+    requires { ⌜ length (now nodes) ≤ mostNodeWords ⌝ }
     ensures { λ r. ⌜ r ≡ placeEqual ikey (classOf len) (entriesAt (now (nodes .entry)) n) ⌝ }
 {
     let word = word_of(nodes, n, 1);
@@ -122,7 +129,7 @@ pub fn height_of(nodes: &[u64], root: u64) -> usize
     requires { ⌜ NodesLent (length (now nodes)) ⌝ }
     ensures { λ r. ⌜ (r ≡ heightAt (now (nodes .entry)) 255 root) × (r ≤ 255) ⌝ }
 {
-    shape::inside::height(nodes, nodes.len() / 47, root)
+    shape::inside::height(nodes, nodes.len() / NODE_WORDS, root)
 }
 
 // Where a key goes in a layer: the leaf for its ikey, and the position of its ikey and class there, or the size.
@@ -135,7 +142,8 @@ pub struct Place {
 pub fn place_in(nodes: &[u64], key: &[u8], links: usize, root: u64) -> Place
     requires { ⌜ NodesLent (length (now nodes)) × (links ≤ 31) ⌝ }
     ensures { λ r. ⌜ r .leaf ≡ leafIn (now (nodes .entry)) root (ikeyAt (now (key .entry)) (8 * links)) ⌝ }
-    ensures { λ r. ⌜ r .position ≡ placeEqual (ikeyAt (now (key .entry)) (8 * links)) (classAt (now (key .entry)) (8 * links)) (entriesAt (now (nodes .entry)) (r .leaf)) ⌝ }
+    ensures { λ r. ⌜ r .position ≡ placeEqual (ikeyAt (now (key .entry)) (8 * links)) (classAt (now (key .entry)) (8 * links))
+        (entriesAt (now (nodes .entry)) (r .leaf)) ⌝ }
 {
     let ikey = ikey::read_ikey(key, 8 * links);
     let left = shape::inside::left_behind(key.len(), 8 * links);
@@ -152,11 +160,11 @@ pub fn has_key(cells: &[u64], bytes: &[u8], c: u64, key: &[u8]) -> bool
     requires { ⌜ CellsLent (length (now cells)) (length (now bytes)) × (length (now key) ≤ 256) ⌝ }
     ensures { λ r. ⌜ r ≡ hasKey (now (cells .entry)) (now (bytes .entry)) c (now (key .entry)) ⌝ }
 {
-    if (cells.len() / 2) as u64 <= c {
+    if (cells.len() / CELL_WORDS) as u64 <= c {
         return false;
     }
     let k = c as usize;
-    if cells[k * 2] != key.len() as u64 + 1 {
+    if cells[k * CELL_WORDS] != key.len() as u64 + 1 {
         return false;
     }
     let stored = arena::inside::key_of(bytes, k, key.len());
@@ -171,9 +179,9 @@ pub fn has_key(cells: &[u64], bytes: &[u8], c: u64, key: &[u8]) -> bool
 // The word of memory that holds the number of the entry in a slot.
 pub fn number_word(n: u64, slot: usize) -> usize
     requires { ⌜ (n < 255) × (slot < 16) ⌝ }
-    ensures { λ r. ⌜ r ≡ nodeStart n + 32 + slot ⌝ }
+    ensures { λ r. ⌜ r ≡ nodeStart n + refsFrom + slot ⌝ }
 {
-    2 + n as usize * 47 + 32 + slot
+    HEADER_WORDS + n as usize * NODE_WORDS + REFS + slot
 }
 
 // Where a key is, from a layer down: stored, in conflict with another, or missing in a layer.
@@ -188,7 +196,8 @@ pub fn seek(
 ) -> Met
     requires { ⌜ NodesLent (length (now nodes)) × CellsLent (length (now cells)) (length (now bytes)) ⌝ }
     requires { ⌜ (length (now key) ≤ 256) × (links ≤ 31) ⌝ }
-    ensures { λ r. ⌜ r ≡ meet (31 - links) (memory (now (nodes .entry)) (now (cells .entry)) (now (bytes .entry))) (now (key .entry)) links holder root ⌝ }
+    ensures { λ r. ⌜ r ≡ meet (31 - links) (memory (now (nodes .entry)) (now (cells .entry)) (now (bytes .entry)))
+        (now (key .entry)) links holder root ⌝ }
     ensures { λ r. ⌜ Within (nodeCount (length (now (nodes .entry)))) (cellCount (length (now (cells .entry)))) r ⌝ }
 {
     let place = place_in(nodes, key, links, root);
@@ -272,17 +281,17 @@ pub fn kth_node(nodes: &[u64], links: usize, height: usize, n: u64, k: u64) -> R
 
 // How many children an internode has, and lent memory has room for.
 pub fn children_of(nodes: &[u64], n: u64) -> usize
-    requires { ⌜ length (now nodes) ≤ 11987 ⌝ }
+    requires { ⌜ length (now nodes) ≤ mostNodeWords ⌝ }
     ensures { λ r. ⌜ r ≡ length (childrenAt (now (nodes .entry)) n) ⌝ }
 {
     if 255 <= n {
         return 0;
     }
-    let start = 2 + n as usize * 47;
-    if nodes.len() <= start + 17 {
+    let start = HEADER_WORDS + n as usize * NODE_WORDS;
+    if nodes.len() <= start + CHILDREN {
         return 0;
     }
-    let room = nodes.len() - (start + 17);
+    let room = nodes.len() - (start + CHILDREN);
     let count = nodes[start + 1];
     if count < room as u64 {
         return count as usize + 1;
@@ -292,10 +301,11 @@ pub fn children_of(nodes: &[u64], n: u64) -> usize
 
 // Child i of an internode.
 pub fn child_at(nodes: &[u64], n: u64, i: usize) -> u64
-    requires { ⌜ (length (now nodes) ≤ 11987) × (nodeStart n + 17 + i < length (now nodes)) × (i ≤ wordAt (now nodes) n 1) ⌝ }
+    requires { ⌜ (length (now nodes) ≤ mostNodeWords) × (nodeStart n + childrenFrom + i < length (now nodes))
+        × (i ≤ wordAt (now nodes) n 1) ⌝ }
     ensures { λ r. ⌜ r ≡ getD (childrenAt (now (nodes .entry)) n) i 0 ⌝ }
 {
-    nodes[2 + n as usize * 47 + 17 + i]
+    nodes[HEADER_WORDS + n as usize * NODE_WORDS + CHILDREN + i]
 }
 
 // The k-th entry of a leaf, with the layers below its links.

@@ -5,9 +5,14 @@ ghost use Prim.Native.Nat.{_+_, _≤_};
 ghost use lib.ListN.{length};
 ghost use Rattle.internode.specs.Lists as internode;
 ghost use Rattle.arena.specs.Parts.{part};
-ghost use Rattle.arena.specs.Layout.{nodeStart};
+ghost use Rattle.arena.specs.Layout.{nodeStart, nodeEnd};
 ghost use Rattle.forest.specs.Nodes.{internodeRight, nodeFree};
 ghost use Rattle.forest.specs.Walk.{heightAt};
+use memory_layout::CHILDREN;
+use memory_layout::HEADER_WORDS;
+use memory_layout::IKEYS;
+use memory_layout::INTERNODE;
+use memory_layout::NODE_WORDS;
 pub use shape_cells::inside::cell_free;
 pub use shape_cells::inside::cell_right;
 pub use shape_cells::inside::class_of;
@@ -18,20 +23,18 @@ pub use shape_cells::inside::left_behind;
 pub use shape_leaves::inside::entries_of_class;
 pub use shape_leaves::inside::entries_rising;
 pub use shape_leaves::inside::entry_at;
-pub use shape_leaves::inside::is_zero;
 pub use shape_leaves::inside::leaf_right;
 pub use shape_leaves::inside::rest_zero;
 pub use zeros::inside::bytes_zero;
-pub use zeros::inside::still_zero;
 pub use zeros::inside::words_zero;
 
 // Whether node k is an internode by the rules: its kind, at most 15 rising ikeys, and zeros behind them and behind the children.
 pub fn internode_right(nodes: &[u64], k: usize) -> bool
-    requires { ⌜ nodeStart k + 47 ≤ length (now nodes) ⌝ }
+    requires { ⌜ nodeEnd k ≤ length (now nodes) ⌝ }
     ensures { λ r. ⌜ r ≡ internodeRight (now (nodes .entry)) k ⌝ }
 {
-    let at = 2 + k * 47;
-    if nodes[at] != 2 {
+    let at = HEADER_WORDS + k * NODE_WORDS;
+    if nodes[at] != INTERNODE {
         return false;
     }
     let count = nodes[at + 1];
@@ -39,10 +42,10 @@ pub fn internode_right(nodes: &[u64], k: usize) -> bool
         return false;
     }
     let n = count as usize;
-    if !ikeys_rising(nodes, at + 2, n) {
+    if !ikeys_rising(nodes, at + IKEYS, n) {
         return false;
     }
-    if !words_zero(nodes, at + 2 + n, 15 - n) {
+    if !words_zero(nodes, at + IKEYS + n, 15 - n) {
         return false;
     }
     words_zero(nodes, at + 18 + n, 29 - n)
@@ -66,10 +69,10 @@ pub fn ikeys_rising(words: &[u64], at: usize, n: usize) -> bool
 
 // Whether node k is free: all its words are zero.
 pub fn node_free(nodes: &[u64], k: usize) -> bool
-    requires { ⌜ nodeStart k + 47 ≤ length (now nodes) ⌝ }
+    requires { ⌜ nodeEnd k ≤ length (now nodes) ⌝ }
     ensures { λ r. ⌜ r ≡ nodeFree (now (nodes .entry)) k ⌝ }
 {
-    words_zero(nodes, 2 + k * 47, 47)
+    words_zero(nodes, HEADER_WORDS + k * NODE_WORDS, NODE_WORDS)
 }
 
 // How far it is down to a leaf by first children; 255 steps at most.
@@ -84,11 +87,11 @@ pub fn height(nodes: &[u64], count: usize, root: u64) -> usize
         if count as u64 <= n {
             return h;
         }
-        let at = 2 + n as usize * 47;
-        if nodes[at] != 2 {
+        let at = HEADER_WORDS + n as usize * NODE_WORDS;
+        if nodes[at] != INTERNODE {
             return h;
         }
-        n = nodes[at + 17];
+        n = nodes[at + CHILDREN];
         h += 1;
     }
     h

@@ -1,15 +1,16 @@
 -- A law for each way in which a judgement of a cell, and of the key in it, returns. Assumes nothing.
 use Prim.Native.Nat.{ℕ, suc, _+_, _*_, _-_, _≤_, _<_}
-use mathlib.Core.Path.{_≡_, sym, ap, ap₂, _∙_}
+use mathlib.Core.Path.{_≡_, refl, sym, ap, ap₂, _∙_}
 use mathlib.Core.Bool.{Bool, true, false, not, _&&_}
-use mathlib.Core.List.{List, _∷_}
+use mathlib.Core.List.{List, [], _∷_}
 use native.Mathlib.Omega.{arith}
 use lib.Dec.{eqb, leb, ltb}
 use lib.ListN.{length, getD, take, drop}
 use lib.Seq.{length-take-le, getD-take, drop-cons, drop-length}
 use borrow.Author.Needs.{needs}
-use borrow.Author.Tests.{le-leb, lt-leb, le-ltb, lt-ltb, eq-eqb, ne-eqb, not-true, not-false, leb-true}
-use Rattle.order.specs.Layer.{ikeyAt, classOf}
+use borrow.Author.Tests.{le-leb, lt-leb, le-ltb, lt-ltb, eq-eqb, ne-eqb, not-true, not-false, leb-true, ltb-true}
+use Rattle.order.specs.Layer.{bigEndian, ikeyAt, classOf}
+use Rattle.keys_read.proofs.Ikeys.{read-part}
 use Rattle.leaf.proofs.Lists.{both}
 use Rattle.arena.specs.Parts.{part}
 use Rattle.arena.specs.Layout.{markAt, keyStart}
@@ -80,12 +81,38 @@ module _ (cells bytes : List ℕ) (c : ℕ) {r : Bool} (e : r ≡ allZero (part 
 
 -- ---- the ikeys of the links above a key
 
+-- a key that goes on behind the last of its ikeys is longer than all of them
+under-long : (key : List ℕ) (offset : ℕ) (ks : List ℕ) → under key offset ks ≡ true → 0 < length ks → offset + 8 * length ks < length key
+unfolding under
+under-long key offset [] e l = absurd (omega arith)
+under-long key offset (k ∷ []) e l =
+    let z : offset + 8 < length key
+    = ltb-true (offset + 8) (length key) (both {a = ltb (offset + 8) (length key)} (both {a = eqb (ikeyAt key offset) k} e .1) .0) in
+    omega arith
+under-long key offset (k ∷ (n ∷ ks)) e l =
+    let z : offset + 8 + 8 * length (n ∷ ks) < length key
+    = under-long key (offset + 8) (n ∷ ks) (both {a = ltb (offset + 8) (length key)} (both {a = eqb (ikeyAt key offset) k} e .1) .1)
+    (omega arith) in
+    omega arith
+
+unless-true : (b : Bool) → (b ≡ true → ⊥) → false ≡ b
+unless-true true f = absurd (f refl)
+unless-true false f = refl
+
 module _ (key above : List ℕ) (links : ℕ) (fits : links ≤ length above) where
   abbrev ks : List ℕ
   ks = take links above
 
   long : length ks ≡ links
   long = length-take-le links above fits
+
+  pub under-none : links ≡ 0 → true ≡ under key 0 (take links above)
+  unfolding under
+  under-none z = rw z
+
+  pub under-short : (links ≡ 0 → ⊥) → length key ≤ 8 * links → false ≡ under key 0 (take links above)
+  under-short some h =
+      unless-true (under key 0 ks) (λ e. omega (arith, long, under-long key 0 ks e (omega (arith, long, some))))
 
   module _ {i : ℕ} (e : under key 0 (take links above) ≡ under key (8 * i) (drop i (take links above))) where
     step : i < links → under key 0 (take links above)
@@ -96,25 +123,24 @@ module _ (key above : List ℕ) (links : ℕ) (fits : links ≤ length above) wh
         ∙ ap (under key (8 * i))
         (drop-cons ks i 0 (omega (arith, long)) ∙ ap (λ (x : ℕ). x ∷ drop (suc i) ks) (getD-take links above i 0 l))
 
-    module _ (l : i < links) {read : ℕ} (er : read ≡ ikeyAt key (8 * i)) where
+    module _ (l : i < links) {read : ℕ} (er : read ≡ bigEndian 8 (take (length key - 8 * i) (drop (8 * i) key))) where
+      here : read ≡ ikeyAt key (8 * i)
+      here = read-part key (8 * i) er
+
       pub under-other : (read ≡ getD above i 0 → ⊥) → false ≡ under key 0 (take links above)
       under-other h =
           sym (step l ∙ ap (λ (b : Bool). b && (ltb (8 * i + 8) (length key) && under key (8 * i + 8) (drop (suc i) (take links above))))
-          (ne-eqb (ikeyAt key (8 * i)) (getD above i 0) (λ q. h (er ∙ q))))
+          (ne-eqb (ikeyAt key (8 * i)) (getD above i 0) (λ q. h (here ∙ q))))
 
       module _ (same : read ≡ getD above i 0) where
         stepped : under key 0 (take links above) ≡ (ltb (8 * i + 8) (length key) && under key (8 * i + 8) (drop (suc i) (take links above)))
         stepped =
             step l ∙ ap (λ (b : Bool). b && (ltb (8 * i + 8) (length key) && under key (8 * i + 8) (drop (suc i) (take links above))))
-            (eq-eqb (ikeyAt key (8 * i)) (getD above i 0) (sym er ∙ same))
+            (eq-eqb (ikeyAt key (8 * i)) (getD above i 0) (sym here ∙ same))
 
-        pub under-end : length key ≤ 8 * i + 8 → false ≡ under key 0 (take links above)
-        under-end h =
-            sym (stepped ∙ ap (λ (b : Bool). b && under key (8 * i + 8) (drop (suc i) (take links above))) (le-ltb (8 * i + 8) (length key) h))
-
-        pub under-next : 8 * i + 8 < length key → under key 0 (take links above) ≡ under key (8 * (i + 1)) (drop (i + 1) (take links above))
+        pub under-next : 8 * links < length key → under key 0 (take links above) ≡ under key (8 * (i + 1)) (drop (i + 1) (take links above))
         under-next h =
-            stepped ∙ ap (λ (b : Bool). b && under key (8 * i + 8) (drop (suc i) (take links above))) (lt-ltb (8 * i + 8) (length key) h)
+            stepped ∙ ap (λ (b : Bool). b && under key (8 * i + 8) (drop (suc i) (take links above))) (lt-ltb (8 * i + 8) (length key) (omega arith))
             ∙ ap₂ (λ (o n : ℕ). under key o (drop n (take links above)))
             (let z : 8 * i + 8 ≡ 8 * (i + 1) = omega arith in z) (let z : suc i ≡ i + 1 = omega arith in z)
 
@@ -148,6 +174,6 @@ pub ruleset frees = (cell-held, cell-bytes)
 
 pub ruleset filing = (needs, mark-some, mark-short, filed-not, filed-keyed)
 
-pub ruleset unders = (under-other, under-end, under-all)
+pub ruleset unders = (under-none, under-short, under-other, under-all)
 
 pub ruleset keys = (keyed-not, keyed-other, keyed-class)

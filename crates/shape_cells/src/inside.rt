@@ -3,17 +3,19 @@ ghost use mathlib.Core.Path.{_≡_};
 ghost use Prim.Native.Nat.{_+_, _-_, _≤_};
 ghost use lib.ListN.{length, take};
 ghost use Rattle.order.specs.Layer.{classOf};
-ghost use Rattle.arena.specs.Layout.{cellStart, keyStart};
+ghost use Rattle.arena.specs.Layout.{cellEnd, keyEnd};
 ghost use Rattle.forest.specs.Cells.{cellRight, under, keyed, filed, cellFree};
+use memory_layout::CELL_BYTES;
+use memory_layout::CELL_WORDS;
 use zeros::inside::bytes_zero;
 use zeros::inside::words_zero;
 
 // Whether a cell is one in use: a key of up to 256 bytes, and zeros past its end.
 pub fn cell_right(cells: &[u64], bytes: &[u8], c: usize) -> bool
-    requires { ⌜ (cellStart c + 2 ≤ length (now cells)) × (keyStart c + 256 ≤ length (now bytes)) ⌝ }
+    requires { ⌜ (cellEnd c ≤ length (now cells)) × (keyEnd c ≤ length (now bytes)) ⌝ }
     ensures { λ r. ⌜ r ≡ cellRight (now (cells .entry)) (now (bytes .entry)) c ⌝ }
 {
-    let mark = cells[c * 2];
+    let mark = cells[c * CELL_WORDS];
     if mark < 1 {
         return false;
     }
@@ -21,21 +23,25 @@ pub fn cell_right(cells: &[u64], bytes: &[u8], c: usize) -> bool
         return false;
     }
     let len = (mark - 1) as usize;
-    bytes_zero(bytes, c * 256 + len, 256 - len)
+    bytes_zero(bytes, c * CELL_BYTES + len, CELL_BYTES - len)
 }
 
-// Whether a key has the ikeys of the links above it, and goes on behind each.
+// The key has the ikeys of the links above it, and goes on behind each: it does so where it goes on behind the last, so that its length
+// is looked at once.
 pub fn is_under(key: &[u8], above: &[u64], links: usize) -> bool
     requires { ⌜ (links ≤ length (now above)) × (links ≤ 31) ⌝ }
     ensures { λ r. ⌜ r ≡ under (now (key .entry)) 0 (take links (now (above .entry))) ⌝ }
 {
+    if links == 0 {
+        return true;
+    }
+    if key.len() <= 8 * links {
+        return false;
+    }
     let mut i: usize = 0;
     // The key has the ikeys of the first i links, and goes on behind each.
     while i < links {
-        if ikey::read_ikey(key, 8 * i) != above[i] {
-            return false;
-        }
-        if key.len() <= 8 * i + 8 {
+        if keys_read::inside::eight(&key[8 * i..]) != above[i] {
             return false;
         }
         i += 1;
@@ -71,7 +77,7 @@ pub fn is_keyed(key: &[u8], above: &[u64], links: usize, ikey: u64, class: u64) 
     if !is_under(key, above, links) {
         return false;
     }
-    if ikey::read_ikey(key, 8 * links) != ikey {
+    if keys_read::read_ikey(key, 8 * links) != ikey {
         return false;
     }
     class_of(left_behind(key.len(), 8 * links)) == class
@@ -87,7 +93,7 @@ pub fn is_filed(
     class: u64,
     c: usize,
 ) -> bool
-    requires { ⌜ (cellStart c + 2 ≤ length (now cells)) × (keyStart c + 256 ≤ length (now bytes)) ⌝ }
+    requires { ⌜ (cellEnd c ≤ length (now cells)) × (keyEnd c ≤ length (now bytes)) ⌝ }
     requires { ⌜ (links ≤ length (now above)) × (links ≤ 31) ⌝ }
     ensures { λ r. ⌜ r ≡ filed (now (cells .entry)) (now (bytes .entry)) (take links (now (above .entry))) ikey class c ⌝ }
 {
@@ -101,11 +107,11 @@ pub fn is_filed(
 
 // Whether cell c is free: its words and bytes are zero.
 pub fn cell_free(cells: &[u64], bytes: &[u8], c: usize) -> bool
-    requires { ⌜ (cellStart c + 2 ≤ length (now cells)) × (keyStart c + 256 ≤ length (now bytes)) ⌝ }
+    requires { ⌜ (cellEnd c ≤ length (now cells)) × (keyEnd c ≤ length (now bytes)) ⌝ }
     ensures { λ r. ⌜ r ≡ cellFree (now (cells .entry)) (now (bytes .entry)) c ⌝ }
 {
-    if !words_zero(cells, c * 2, 2) {
+    if !words_zero(cells, c * CELL_WORDS, CELL_WORDS) {
         return false;
     }
-    bytes_zero(bytes, c * 256, 256)
+    bytes_zero(bytes, c * CELL_BYTES, CELL_BYTES)
 }

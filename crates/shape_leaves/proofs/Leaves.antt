@@ -1,13 +1,16 @@
 -- The entries of a leaf in memory, and what stands in its other slots, by positions of its slot word; and a law for each way in which
 -- a judgement of a leaf returns. Assumes nothing.
-use Prim.Native.Nat.{ℕ, suc, _+_, _*_, _-_, _/_, _%_, _≤_, _<_}
-use mathlib.Core.Path.{_≡_, sym, ap, ap₂, _∙_}
-use mathlib.Core.Bool.{Bool, true, false, not}
-use mathlib.Core.List.{List, map}
+use Prim.Native.Nat.{ℕ, zero, suc, _+_, _*_, _-_, _/_, _%_, _^_, _≤_, _<_}
+use mathlib.Core.Path.{_≡_, refl, sym, ap, ap₂, _∙_, subst}
+use mathlib.Core.Bool.{Bool, true, false, not, _&&_}
+use mathlib.Core.List.{List, [], _∷_, map}
 use native.Mathlib.Omega.{arith}
-use lib.Dec.{leb}
-use lib.ListN.{length, getD, length-map, length-drop}
-use lib.Seq.{getD-drop}
+use native.Mathlib.Nat.{le-of-suc-le-suc, not-suc-le-zero}
+use lib.Dec.{leb, eqb}
+use lib.Bits.{bitOr}
+use lib.Pow.{shr-shr}
+use lib.ListN.{length, getD, take, length-map, length-drop}
+use lib.Seq.{take-all, getD-drop}
 use borrow.Author.Count.{below-more}
 use borrow.Author.Tests.{le-leb, lt-leb, eq-eqb, ne-eqb, not-true, not-false}
 use Rattle.bank.specs.Bank.{slotAt}
@@ -17,10 +20,12 @@ use Rattle.leaf_entries.specs.declared.Entry.{Entry}
 use Rattle.leaf.specs.Lists.{every}
 use Rattle.leaf.specs.Leaf.{none, slotsOf, less, rising}
 use Rattle.leaf.proofs.Lists.{getD-map, every-all, every-not}
+use Rattle.leaf_entries.proofs.Views.{slot-in-word, slot-fifteen}
 use Rattle.leaf.proofs.Orders.{less-weight, rising-if, rising-not}
 use Rattle.arena.specs.Layout.{wordAt}
 use Rattle.forest.specs.Nodes.{entryAt, notInUse, entriesAt, restAt, ofClass, isZero, leafRight}
 use Rattle.forest.proofs.InUse.{entries-length, entry-here}
+use Rattle.zeros.proofs.Zeros.{or-none}
 
 -- ---- an entry by its three words
 
@@ -115,30 +120,76 @@ module _ (nodes : List ℕ) (k word : ℕ) (v : validWord 15 word ≡ true) (w :
       (ap (λ (n : ℕ). less (getD (entriesAt nodes k) n none) (getD (entriesAt nodes k) (suc j) none)) (let z : j ≡ suc j - 1 = omega arith in z)
       ∙ f (suc j) (omega (arith, used-length nodes k word v w)) (omega arith))))
 
--- ---- the slots that are not in use
+-- ---- the slots that are not in use, of which some are left
+
+-- one entry more
+every-more : (es : List Entry) (n : ℕ) → n < length es
+    → every isZero (take (suc n) es) ≡ (every isZero (take n es) && isZero (getD es n none))
+unfolding every
+every-more [] n l = absurd (not-suc-le-zero l)
+every-more (e ∷ es) zero l = and-true (isZero e)
+  where
+    and-true : (b : Bool) → (b && true) ≡ b
+    and-true true = refl
+    and-true false = refl
+every-more (e ∷ es) (suc n) l =
+    ap (λ (b : Bool). isZero e && b) (every-more es n (le-of-suc-le-suc l)) ∙ grouped (isZero e) (every isZero (take n es)) (isZero (getD es n none))
+  where
+    grouped : (a b c : Bool) → (a && (b && c)) ≡ ((a && b) && c)
+    grouped true b c = refl
+    grouped false b c = refl
 
 module _ (nodes : List ℕ) (k word : ℕ) (v : validWord 15 word ≡ true) (w : word ≡ wordAt nodes k 1) where
-  module _ (i : ℕ) {slot : ℕ} {a : Entry} {r : Bool} (p : word % 16 ≤ i) (l : i < 15) (e : slot ≡ slotAt i (slotsOf word))
-      (ea : a ≡ entryAt nodes k slot) (q : r ≡ isZero a) where
-    zero-here : isZero (getD (restAt nodes k) (i - word % 16) none) ≡ r
-    zero-here = ap isZero (other-at nodes k word v w i p l e ∙ sym ea) ∙ sym q
+  module _ {size : ℕ} (s : size ≡ word % 16) where
+    pub left-first : 15 - size ≤ 15 - word % 16
+    left-first = omega arith
 
-    pub rest-not : not r ≡ true → false ≡ every isZero (restAt nodes k)
-    rest-not n =
-        every-not isZero none (restAt nodes k) (i - word % 16) (omega (arith, other-length nodes k word v w))
-        (zero-here ∙ not-true r n)
+    pub nibbles-first : word / 16 / 2 ^ (4 * size) ≡ word / 2 ^ (4 * (16 - (15 - size)))
+    nibbles-first =
+        shr-shr word 4 (4 * size)
+        ∙ ap (λ (n : ℕ). word / 2 ^ n) (let z : 4 + 4 * size ≡ 4 * (16 - (15 - size)) = omega arith in z)
 
-    pub rest-next : ((j : ℕ) → j < i → word % 16 ≤ j → isZero (getD (restAt nodes k) (j - word % 16) none) ≡ true)
-        → not r ≡ false → (j : ℕ) → j < i + 1 → word % 16 ≤ j → isZero (getD (restAt nodes k) (j - word % 16) none) ≡ true
-    rest-next f n = below-more _ i f (λ h. zero-here ∙ not-false r n)
+    pub over-first : eqb 0 0 ≡ every isZero (take (15 - word % 16 - (15 - size)) (restAt nodes k))
+    unfolding every
+    over-first =
+        ap (λ (n : ℕ). every isZero (take n (restAt nodes k))) (let z : 0 ≡ 15 - word % 16 - (15 - size) = omega arith in z)
 
-  pub rest-all : (i : ℕ) → 15 ≤ i → ((j : ℕ) → j < i → word % 16 ≤ j → isZero (getD (restAt nodes k) (j - word % 16) none) ≡ true)
-      → true ≡ every isZero (restAt nodes k)
-  rest-all i l f =
-      every-all isZero none (restAt nodes k)
-      (λ j h.
-      ap (λ (n : ℕ). isZero (getD (restAt nodes k) n none)) (let z : j ≡ word % 16 + j - word % 16 = omega arith in z)
-      ∙ f (word % 16 + j) (omega (arith, other-length nodes k word v w)) (omega arith))
+  module _ {rest left : ℕ} (l : 0 < left) (m : left ≤ 15 - word % 16) (er : rest ≡ word / 2 ^ (4 * (16 - left))) where
+    nibble-left : rest ≡ word / 2 ^ (4 * (15 - left + 1))
+    nibble-left = er ∙ ap (λ (n : ℕ). word / 2 ^ (4 * n)) (let z : 16 - left ≡ 15 - left + 1 = omega arith in z)
+
+    pub nibbles-next : rest / 16 ≡ word / 2 ^ (4 * (16 - (left - 1)))
+    nibbles-next =
+        ap (λ (x : ℕ). x / 16) er
+        ∙ shr-shr word (4 * (16 - left)) 4
+        ∙ ap (λ (n : ℕ). word / 2 ^ n) (let z : 4 * (16 - left) + 4 ≡ 4 * (16 - (left - 1)) = omega arith in z)
+
+    module _ {slot : ℕ} (es : slot ≡ rest % 16) where
+      slot-left : slot ≡ slotAt (15 - left) (slotsOf word)
+      slot-left = slot-in-word word (15 - left) (omega arith) (es ∙ ap (λ (x : ℕ). x % 16) nibble-left)
+
+      pub slot-left-lt : slot < 15
+      slot-left-lt = slot-fifteen word v (15 - left) (omega arith) slot-left
+
+      here : getD (restAt nodes k) (15 - word % 16 - left) none ≡ entryAt nodes k slot
+      here =
+          ap (λ (n : ℕ). getD (restAt nodes k) n none) (let z : 15 - word % 16 - left ≡ 15 - left - word % 16 = omega arith in z)
+          ∙ other-at nodes k word v w (15 - left) (omega arith) (omega arith) slot-left
+
+      pub over-next : {a : Entry} (r found : ℕ) → a ≡ entryAt nodes k slot → eqb r 0 ≡ isZero a
+          → eqb found 0 ≡ every isZero (take (15 - word % 16 - left) (restAt nodes k))
+          → eqb (bitOr found r) 0 ≡ every isZero (take (15 - word % 16 - (left - 1)) (restAt nodes k))
+      over-next {a} r found ea q f =
+          or-none found r
+          ∙ ap₂ _&&_ f (q ∙ ap isZero (ea ∙ sym here))
+          ∙ sym (every-more (restAt nodes k) (15 - word % 16 - left) (omega (arith, other-length nodes k word v w)))
+          ∙ ap (λ (n : ℕ). every isZero (take n (restAt nodes k)))
+          (let z : suc (15 - word % 16 - left) ≡ 15 - word % 16 - (left - 1) = omega arith in z)
+
+  pub over-all : {left : ℕ} (found : ℕ) → left ≤ 0 → eqb found 0 ≡ every isZero (take (15 - word % 16 - left) (restAt nodes k))
+      → eqb found 0 ≡ every isZero (restAt nodes k)
+  over-all {left} found l f =
+      f ∙ ap (every isZero) (take-all (15 - word % 16 - left) (restAt nodes k) (omega (arith, other-length nodes k word v w)))
 
 -- ---- the whole leaf
 
@@ -176,6 +227,6 @@ pub ruleset classes = (class-not, class-next, class-all)
 
 pub ruleset orders = (order-not, order-next, order-all)
 
-pub ruleset rests = (rest-not, rest-next, rest-all)
+pub ruleset rests = (left-first, nibbles-first, over-first, slot-left-lt, nibbles-next, over-next, over-all)
 
 pub ruleset leaves = (leaf-kind, leaf-word, leaf-classes, leaf-order, leaf-rest)

@@ -1,15 +1,17 @@
 -- One law for each way in which a call on a judged word returns. Assumes nothing.
-use mathlib.Core.Path.{_≡_, sym, ap, subst}
+use mathlib.Core.Path.{_≡_, refl, sym, ap, subst}
+use mathlib.Core.Bool.{Bool, true, false, not}
 use mathlib.Core.List.{[], _∷_}
 use Prim.Native.Nat.{ℕ, suc, _+_, _-_, _*_, _/_, _%_, _^_, _≤_, _<_}
 use native.Mathlib.Omega.{arith}
 use native.Mathlib.Numerals.{add-one}
 use lib.ListN.{length}
 use borrow.Author.Needs.{needs}
-use borrow.Author.Tests.{lt-leb, le-leb, lt-ltb, le-ltb}
-use Rattle.refusal.specs.Answer.{accepted, refused}
+use borrow.Author.Tests.{lt-leb, le-leb, lt-ltb, le-ltb, not-true, not-false}
+use Rattle.refusal.specs.Answer.{accepted, refused, _unless_}
+use Rattle.refusal.specs.Refusals.{numberOf}
 use Rattle.refusal.specs.declared.Refusal.{Refusal}
-use Rattle.refusal.specs.declared.Refusal.the-variants.{Position, Full, Unused}
+use Rattle.refusal.specs.declared.Refusal.the-variants.{Width, Word, Position, Full, Unused}
 use Rattle.bank.specs.Lists.{turned}
 use Rattle.bank.specs.Bank.{insertedFromBack, exchanged, resized, placeInUse}
 use Rattle.bank.specs.Calls.{
@@ -37,8 +39,8 @@ use Rattle.bank.specs.Calls.{
 use Rattle.nibbles.specs.declared.inside.Verdict.{Verdict}
 use Rattle.nibbles.specs.declared.inside.Verdict.the-variants.{Fine, No}
 use Rattle.nibbles.specs.Nibbles.{pack, nibbles}
-use Rattle.nibbles.specs.Words.{bankOf, wordOf}
-use Rattle.slot_answers.specs.Words.{changed, asked}
+use Rattle.nibbles.specs.Words.{bankOf, wordOf, validWord}
+use Rattle.slot_answers.specs.Words.{changed, asked, refusedBy}
 use Rattle.nibbles.specs.Judged.{judged}
 use Rattle.nibbles.proofs.Nibbles.{length-nibbles, pack-whole}
 use Rattle.nibbles.proofs.Words.{slot-here}
@@ -142,14 +144,6 @@ module _ (w word : ℕ) {v : Verdict} (e : v ≡ judged w word) (f : v ≡ Fine)
     swap-word l m k o d =
         rw (go-on w word e f, wide, le-leb (word % 16) i (omega arith), lt-ltb i w m, le-leb (word % 16) j (omega arith), lt-ltb j w o, d)
 
-  pub insert-position : {n : ℕ} (i : ℕ) → n ≡ word % 16 → n < i → refused Position (word ∷ []) ≡ changed w word (insertFromBack i)
-  unfolding changed
-  insert-position i s l = rw (go-on w word e f, lt-leb i (word % 16) (omega arith))
-
-  pub insert-full : {n : ℕ} (i : ℕ) → n ≡ word % 16 → i ≤ n → w ≤ n → refused Full (word ∷ []) ≡ changed w word (insertFromBack i)
-  unfolding changed
-  insert-full i s l m = rw (go-on w word e f, wide, le-leb i (word % 16) (omega arith), le-ltb (word % 16) w (omega arith))
-
   pub insert-word : {n r q : ℕ} (i : ℕ) → n ≡ word % 16 → i ≤ n → n < w → r ≡ wordOf (insertedFromBack i (bankOf w word))
       → q ≡ word / 2 ^ (4 * w) % 16 → accepted (r ∷ q ∷ []) ≡ changed w word (insertFromBack i)
   unfolding changed
@@ -221,6 +215,52 @@ module _ (w word : ℕ) {v : Verdict} (e : v ≡ judged w word) (f : v ≡ Fine)
     unfolding changed
     rotate-word s l m d = rw (go-on w word e f, wide, le-leb i j l, le-leb j w m, d, s)
 
+-- ---- an insertion, whose own rules are tried first
+
+module _ (w word : ℕ) where
+  module _ (why : Refusal) {n : ℕ} (i : ℕ) (s : n ≡ word % 16) where
+    pub insert-outside : n < i → refused why (word ∷ []) ≡ refusedBy w word Position
+        → refused why (word ∷ []) ≡ changed w word (insertFromBack i)
+    unfolding changed
+    insert-outside l d = rw (lt-leb i (word % 16) (omega arith)) d
+
+    pub insert-full : i ≤ n → w ≤ n → refused why (word ∷ []) ≡ refusedBy w word Full
+        → refused why (word ∷ []) ≡ changed w word (insertFromBack i)
+    unfolding changed
+    insert-full l m d =
+        rw (le-leb i (word % 16) (omega arith), length-nibbles, le-ltb (word % 16) w (omega arith)) d
+
+  module _ {n : ℕ} (i : ℕ) (s : n ≡ word % 16) (m : n < w) where
+    pub insert-wide : 15 < w → refused Width (word ∷ []) ≡ changed w word (insertFromBack i)
+    unfolding changed
+    insert-wide o = rw (le-leb 1 w (omega arith), lt-leb w 15 o)
+
+    module _ (o : w ≤ 15) {v : Bool} (e : v ≡ validWord w word) where
+      pub insert-wrong : not v ≡ true → refused Word (word ∷ []) ≡ changed w word (insertFromBack i)
+      unfolding changed
+      insert-wrong h = rw (le-leb 1 w (omega arith), le-leb w 15 o, ← e, not-true v h)
+
+      module _ (h : not v ≡ false) where
+        fine : Fine ≡ judged w word
+        unfolding judged
+        fine = rw (le-leb 1 w (omega arith), le-leb w 15 o, ← e, not-false v h)
+
+        pub insert-clear : word < 2 ^ (4 * (w + 1))
+        insert-clear = good w word fine refl .clear
+
+        pub insert-right : {r q : ℕ} → i ≤ n → r ≡ wordOf (insertedFromBack i (bankOf w word))
+            → q ≡ word / 2 ^ (4 * w) % 16 → accepted (r ∷ q ∷ []) ≡ changed w word (insertFromBack i)
+        insert-right l d b = insert-word w word fine refl i s l m d b
+
+-- ---- any call that breaks a rule of its own, after the judgement
+
+module _ (w word : ℕ) {v : Verdict} (e : v ≡ judged w word) (own : Refusal) where
+  pub refused-by-word : {why : Refusal} → v ≡ No why → refused why (word ∷ []) ≡ refusedBy w word own
+  refused-by-word f = refused-word w word e ((numberOf own unless false) ∷ []) [] f
+
+  pub refused-by-own : v ≡ Fine → refused own (word ∷ []) ≡ refusedBy w word own
+  refused-by-own f = sym (go-on w word e f ((numberOf own unless false) ∷ []) [])
+
 -- ---- what the functions inside ask, of a word that was judged
 
 module _ (w word : ℕ) {v : Verdict} (e : v ≡ judged w word) (f : v ≡ Fine) where
@@ -280,9 +320,6 @@ pub ruleset calls = (
   swap-second-in-use,
   swap-second-out,
   swap-word,
-  insert-position,
-  insert-full,
-  insert-word,
   remove-position,
   remove-word,
   withdraw-position,
@@ -298,3 +335,7 @@ pub ruleset calls = (
 )
 
 pub ruleset asks = (needs, clear-here, width-here, place-near, below-width, before-width, size-here, next-here, size-word, new-size)
+
+pub ruleset inserts = (needs, insert-outside, insert-full, insert-wide, insert-wrong, insert-clear, insert-right)
+
+pub ruleset refusals = (refused-by-word, refused-by-own)

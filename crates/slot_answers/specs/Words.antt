@@ -1,7 +1,10 @@
 -- What each call on a slot word answers.
 use Prim.Native.Nat.{ℕ}
+use mathlib.Core.Bool.{false}
 use mathlib.Core.List.{List, [], _∷_}
 use lib.Dec.{leb}
+use Rattle.refusal.specs.declared.Refusal.{Refusal}
+use Rattle.refusal.specs.Refusals.{numberOf}
 use Rattle.refusal.specs.Answer.{Answer, Rule, _unless_, answered}
 use Rattle.bank.specs.Bank.{sorted}
 use Rattle.bank.specs.Calls.{Change, Question, changeRules, after, handedOut, questionRules, told}
@@ -10,6 +13,10 @@ use Rattle.nibbles.specs.Words.{bankOf, wordOf, goodWidth, validWord}
 -- what every call on a word needs, and then what this one needs, by rising number
 abbrev pub wordRules : ℕ → ℕ → List Rule → List Rule
 wordRules w word rules = (1 unless goodWidth w) ∷ (2 unless validWord w word) ∷ rules
+
+-- a call that breaks a rule of its own: 1 or 2, where the width or the word is wrong, and else the number of that rule
+abbrev pub refusedBy : ℕ → ℕ → Refusal → Answer
+refusedBy w word own = answered (wordRules w word ((numberOf own unless false) ∷ [])) [] (word ∷ [])
 
 -- a call that hands a word back: the new word and what it tells beside it; refused, the word as given
 unfoldable pub changed : ℕ → ℕ → Change → Answer

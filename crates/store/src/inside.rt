@@ -3,6 +3,7 @@
 ghost use mathlib.Core.Path.{_≡_};
 ghost use Prim.Native.Nat.{_+_, _≤_, _<_};
 ghost use lib.ListN.{length, getD, set};
+ghost use Rattle.memory_layout.specs.Numbers.{classesFrom};
 ghost use Rattle.bank.specs.Bank.{slotAt};
 ghost use Rattle.arena.specs.Layout.{nodeStart, keyAt};
 ghost use Rattle.arena.specs.Free.{freeCells};
@@ -13,14 +14,21 @@ ghost use Rattle.model.specs.Calls.{neededAt, nodesWith};
 ghost use Rattle.seek.specs.Lengths.{NodesLent, CellsLent};
 ghost use Rattle.store.specs.Places.{roomAt, withAt, Lent};
 use arena::inside::Lowest;
+use memory_layout::CELL_BYTES;
+use memory_layout::CELL_WORDS;
+use memory_layout::CLASSES;
+use memory_layout::HEADER_WORDS;
+use memory_layout::NODE_WORDS;
+use memory_layout::REFS;
 use model::Met;
 
 // The lowest free cell, 0 where none is free.
 fn lowest_cell(cells: &[u64]) -> usize
     requires { ⌜ 1 ≤ cellCount (length (now cells)) ⌝ }
-    ensures { λ r. ⌜ (r ≡ getD (freeCells (now (cells .entry)) (cellCount (length (now (cells .entry))))) 0 0) × (r < cellCount (length (now (cells .entry)))) ⌝ }
+    ensures { λ r. ⌜ (r ≡ getD (freeCells (now (cells .entry)) (cellCount (length (now (cells .entry))))) 0 0)
+        × (r < cellCount (length (now (cells .entry)))) ⌝ }
 {
-    let Lowest::At(c) = arena::inside::lowest_free_cell(cells, cells.len() / 2) else {
+    let Lowest::At(c) = arena::inside::lowest_free_cell(cells, cells.len() / CELL_WORDS) else {
         return 0;
     };
     c
@@ -31,11 +39,11 @@ fn key_in<'a>(cells: &[u64], bytes: &'a [u8], cell: u64) -> &'a [u8]
     requires { ⌜ CellsLent (length (now cells)) (length (now bytes)) ⌝ }
     ensures { λ r. ⌜ now r ≡ keyAt (now (cells .entry)) (now (bytes .entry)) cell ⌝ }
 {
-    if (cells.len() / 2) as u64 <= cell {
+    if (cells.len() / CELL_WORDS) as u64 <= cell {
         return &bytes[0..0];
     }
-    let from = cell as usize * 256;
-    let mark = cells[cell as usize * 2];
+    let from = cell as usize * CELL_BYTES;
+    let mark = cells[cell as usize * CELL_WORDS];
     if mark < 1 {
         return &bytes[from..from];
     }
@@ -83,10 +91,10 @@ pub fn has_room(nodes: &[u64], cells: &[u64], bytes: &[u8], key: &[u8], met: Met
     requires { ⌜ Lent (now nodes) (now cells) (now bytes) met ⌝ }
     ensures { λ r. ⌜ r ≡ roomAt (memory (now (nodes .entry)) (now (cells .entry)) (now (bytes .entry))) (now (key .entry)) met ⌝ }
 {
-    if arena::inside::free_cells(cells, cells.len() / 2) < 1 {
+    if arena::inside::free_cells(cells, cells.len() / CELL_WORDS) < 1 {
         return false;
     }
-    let free = arena::inside::free_nodes(nodes, nodes.len() / 47);
+    let free = arena::inside::free_nodes(nodes, nodes.len() / NODE_WORDS);
     if free < needed(nodes, cells, bytes, key, met) {
         return false;
     }
@@ -96,20 +104,23 @@ pub fn has_room(nodes: &[u64], cells: &[u64], bytes: &[u8], key: &[u8], met: Met
 // Turns the entry at a position of a leaf into a link, and tells which word holds its number.
 fn make_link(nodes: &mut [u64], leaf: u64, position: usize) -> usize
     requires { ⌜ NodesLent (length (now nodes)) × (leaf < nodeCount (length (now nodes))) × (position < 15) ⌝ }
-    ensures { λ r. ⌜ (now (nodes .exit) ≡ set (now (nodes .entry)) (nodeStart leaf + 17 + slotAt position (slotsAt (now (nodes .entry)) leaf)) 10) × (r ≡ numberWord (now (nodes .entry)) leaf position) ⌝ }
+    ensures { λ r. ⌜ (now (nodes .exit) ≡ set (now (nodes .entry))
+        (nodeStart leaf + classesFrom + slotAt position (slotsAt (now (nodes .entry)) leaf)) 10)
+        × (r ≡ numberWord (now (nodes .entry)) leaf position) ⌝ }
 {
-    let at = 2 + leaf as usize * 47;
+    let at = HEADER_WORDS + leaf as usize * NODE_WORDS;
     let slot = node_words::inside::slot_of(nodes[at + 1], position);
-    edit::inside::put_at(nodes, at + 17 + slot, 10);
-    at + 32 + slot
+    edit::inside::put_at(nodes, at + CLASSES + slot, 10);
+    at + REFS + slot
 }
 
 // Puts the key's entry into the nodes: in its layer, or below the entry that it is in conflict with.
 fn put_nodes(nodes: &mut [u64], cells: &[u64], bytes: &[u8], key: &[u8], c: u64, met: Met)
     requires { ⌜ Lent (now nodes) (now cells) (now bytes) met ⌝ }
-    ensures { λ _. ⌜ now (nodes .exit) ≡ nodesWith (memory (now (nodes .entry)) (now (cells .entry)) (now (bytes .entry))) (now (key .entry)) c met ⌝ }
+    ensures { λ _. ⌜ now (nodes .exit) ≡ nodesWith (memory (now (nodes .entry)) (now (cells .entry)) (now (bytes .entry)))
+        (now (key .entry)) c met ⌝ }
 {
-    let count = nodes.len() / 47;
+    let count = nodes.len() / NODE_WORDS;
     match met {
         Met::Stored {
             leaf: _,
@@ -147,7 +158,8 @@ pub fn put_new(
     met: Met,
 )
     requires { ⌜ Lent (now nodes) (now cells) (now bytes) met × (length (now key) ≤ 256) ⌝ }
-    ensures { λ _. ⌜ memory (now (nodes .exit)) (now (cells .exit)) (now (bytes .exit)) ≡ withAt (memory (now (nodes .entry)) (now (cells .entry)) (now (bytes .entry))) (now (key .entry)) frame met ⌝ }
+    ensures { λ _. ⌜ memory (now (nodes .exit)) (now (cells .exit)) (now (bytes .exit))
+        ≡ withAt (memory (now (nodes .entry)) (now (cells .entry)) (now (bytes .entry))) (now (key .entry)) frame met ⌝ }
 {
     let c = lowest_cell(cells);
     put_nodes(nodes, cells, bytes, key, c as u64, met);

@@ -85,7 +85,8 @@ fn is_pairs(field: &[u8]) -> bool
 // Writes each pair of hex digits as a byte to the front of the buffer, and tells how many.
 fn pairs_to(field: &[u8], key: &mut [u8]) -> usize
     requires { ⌜ (isPairs (now field) ≡ true) × (length (now field) ≤ 2 * length (now key)) ⌝ }
-    ensures { λ r. ⌜ (r ≡ length (pairs (now (field .entry)))) × (now (key .exit) ≡ putPart (now (key .entry)) 0 (pairs (now (field .entry)))) ⌝ }
+    ensures { λ r. ⌜ (r ≡ length (pairs (now (field .entry))))
+        × (now (key .exit) ≡ putPart (now (key .entry)) 0 (pairs (now (field .entry)))) ⌝ }
 {
     let mut i = 0;
     // The first i pairs are written.
@@ -111,7 +112,8 @@ pub(crate) fn is_key(field: &[u8]) -> bool
 // Writes the key of a field to the front of the buffer, and tells its length.
 pub(crate) fn key_to(field: &[u8], key: &mut [u8]) -> usize
     requires { ⌜ (isKey (now field) ≡ true) × (length (now field) ≤ 2 * length (now key)) ⌝ }
-    ensures { λ r. ⌜ (r ≡ length (keyIn (now (field .entry)))) × (now (key .exit) ≡ putPart (now (key .entry)) 0 (keyIn (now (field .entry)))) ⌝ }
+    ensures { λ r. ⌜ (r ≡ length (keyIn (now (field .entry))))
+        × (now (key .exit) ≡ putPart (now (key .entry)) 0 (keyIn (now (field .entry)))) ⌝ }
 {
     if same(field, b"-") {
         return 0;

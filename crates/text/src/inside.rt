@@ -56,7 +56,8 @@ fn read_put(field: &[u8], last: &[u8], key: &mut [u8]) -> Line
 // What a line of three fields asks for: a put.
 fn read_three(word: &[u8], field: &[u8], last: &[u8], key: &mut [u8]) -> Line
     requires { ⌜ (length (now field) ≤ 1200) × (600 ≤ length (now key)) ⌝ }
-    ensures { λ r. ⌜ heard r (now (key .exit)) ≡ taken (readFields (now (word .entry) ∷ now (field .entry) ∷ now (last .entry) ∷ [])) (now (key .entry)) ⌝ }
+    ensures { λ r. ⌜ heard r (now (key .exit))
+        ≡ taken (readFields (now (word .entry) ∷ now (field .entry) ∷ now (last .entry) ∷ [])) (now (key .entry)) ⌝ }
 {
     if !fields::same(word, b"put") {
         return Line::Bad;

@@ -1,20 +1,21 @@
 -- Moves of a bank in a word: its size, its positions, and the sorted word, by masks and shifts. Assumes nothing.
-use mathlib.Core.Path.{_≡_, sym, ap, ap₂, _∙_, subst}
+use mathlib.Core.Path.{_≡_, refl, sym, ap, ap₂, _∙_, subst}
 use mathlib.Core.List.{List, _∷_, _++_, reverse, reverse-append}
-use Prim.Native.Nat.{ℕ, _+_, _-_, _*_, _/_, _%_, _^_, _≤_, _<_}
-use native.Mathlib.Nat.{mod-lt, zero-lt-suc, zero-add, mul-assoc}
+use Prim.Native.Nat.{ℕ, suc, _+_, _-_, _*_, _/_, _%_, _^_, _≤_, _<_}
+use native.Mathlib.Nat.{mod-lt, mod-eq-of-lt, zero-lt-suc, zero-add, add-mul, mul-assoc, mul-comm}
 use native.Mathlib.Numerals.{add-one}
 use native.Mathlib.Omega.{arith}
 use lib.ListN.{length, getD, take, set, length-reverse}
 use lib.Seq.{take-at, drop-at, length-take-le, getD-take}
-use lib.Pow.{shr-lt, shr-shr, pow-pos, field, mod-mod-pow, mod-pow-add}
+use lib.Pow.{shl-exact, split, shr-lt, shr-shr, pow-pos, field, mod-mod-pow, mod-pow-add}
+use borrow.Author.Needs.{needs}
 use Rattle.bank.specs.Lists.{swapped, part, up}
 use Rattle.bank.specs.Bank.{sorted, insertedFromBack, resized, placeInUse}
 use Rattle.bank.proofs.Counts.{place-at, place-none}
 use Rattle.bank.proofs.Sorted.{length-up, up-append, take-up, sorted-slots, sorted-size}
 use Rattle.nibbles.specs.Nibbles.{pack, nibbles}
 use Rattle.nibbles.specs.Words.{bankOf, wordOf}
-use Rattle.nibbles.proofs.Nibbles.{pow-step, length-nibbles, getD-nibbles, take-nibbles, pack-append, pack-nibbles, pack-whole, nibbles-pack}
+use Rattle.nibbles.proofs.Nibbles.{pow-step, low-lt, high-lt, join-lt, wider, length-nibbles, getD-nibbles, take-nibbles, pack-append, pack-nibbles, pack-whole, nibbles-pack}
 use Rattle.nibbles.proofs.Words.{slot-here}
 use Rattle.turns.proofs.Moves.{part-nibbles, pack-inserted, small-set, length-put}
 
@@ -101,6 +102,71 @@ module _ (w word : ℕ) (h : word < 2 ^ (4 * (w + 1))) where
           let p : x * 2 ^ (4 * (i + 1)) ≡ x * 2 ^ (4 * i) * 16
           = ap (λ (k : ℕ). x * 2 ^ (4 * k)) (add-one i) ∙ ap (λ (z : ℕ). x * z) (pow-step i) ∙ sym (mul-assoc x (2 ^ (4 * i)) 16) in
           omega arith
+
+-- what stands below the width, by a difference
+module _ (w word : ℕ) {last : ℕ} (f : word < 2 ^ 64) (e : last ≡ word / 2 ^ (4 * w)) where
+  lifted : (last * 2 ^ (4 * w)) % 2 ^ 64 ≡ word / 2 ^ (4 * w) * 2 ^ (4 * w)
+  lifted =
+      ap (λ (x : ℕ). (x * 2 ^ (4 * w)) % 2 ^ 64) e
+      ∙ mod-eq-of-lt (let z : word / 2 ^ (4 * w) * 2 ^ (4 * w) < 2 ^ 64 = omega (arith, split word (4 * w)) in z)
+
+  pub below-fits : (last * 2 ^ (4 * w)) % 2 ^ 64 ≤ word
+  below-fits = omega (arith, lifted, split word (4 * w))
+
+  pub below-is : word - (last * 2 ^ (4 * w)) % 2 ^ 64 ≡ word % 2 ^ (4 * w)
+  below-is = omega (arith, lifted, split word (4 * w))
+
+pub ruleset belows = (needs, below-fits, below-is)
+
+-- an insertion as one sum: what moves up by a nibble is added fifteen times more, and the slot at the back once
+module _ (w word i : ℕ) (h : word < 2 ^ (4 * (w + 1))) (m : w ≤ 15) (o : i ≤ word % 16) (f : word % 16 < w)
+    {kept last later : ℕ} (ek : kept ≡ word % 2 ^ (4 * w)) (el : last ≡ word / 2 ^ (4 * w)) (et : later ≡ kept / 2 ^ (4 * (i + 1))) where
+  last-lt : last < 16
+  last-lt = high-lt word w (w + 1) 1 el h (omega arith)
+
+  later-lt : later < 2 ^ (4 * (w - i - 1))
+  later-lt = high-lt kept (i + 1) w (w - i - 1) et (low-lt word w ek) (omega arith)
+
+  widened : 2 ^ (4 * (w - i)) ≡ 2 ^ (4 * (w - i - 1)) * 16
+  widened = ap (λ (k : ℕ). 2 ^ (4 * k)) (let e : w - i ≡ suc (w - i - 1) = omega arith in e) ∙ pow-step (w - i - 1)
+
+  gain-lt : 15 * later + last < 2 ^ (4 * (w - i))
+  gain-lt = omega (arith, last-lt, later-lt, widened)
+
+  pub gain-fits : 15 * later + last < 2 ^ 64
+  gain-fits = wider (w - i) 16 (omega arith) gain-lt
+
+  pub times-fits : 15 * later < 2 ^ 64
+  times-fits = omega (arith, gain-fits)
+
+  shifted : ((15 * later + last) * 2 ^ (4 * (i + 1))) % 2 ^ 64 ≡ (15 * later + last) * 2 ^ (4 * (i + 1))
+  shifted = shl-exact (4 * (w - i)) (4 * (i + 1)) 64 gain-lt (omega arith)
+
+  sum : kept + ((15 * later + last) * 2 ^ (4 * (i + 1))) % 2 ^ 64 + 1
+      ≡ (later * 16 + last) * 2 ^ (4 * (i + 1)) + (kept % 2 ^ (4 * (i + 1)) + 1)
+  sum =
+      ap (λ (x : ℕ). kept + x + 1) shifted
+      ∙ grouped (2 ^ (4 * (i + 1))) (kept % 2 ^ (4 * (i + 1)))
+      (sym (split kept (4 * (i + 1))) ∙ ap (λ (x : ℕ). x * 2 ^ (4 * (i + 1)) + kept % 2 ^ (4 * (i + 1))) (sym et))
+    where
+      grouped : (p below : ℕ) → kept ≡ later * p + below → kept + (15 * later + last) * p + 1 ≡ (later * 16 + last) * p + (below + 1)
+      grouped p below e = omega (arith, add-mul (15 * later) last p, add-mul (later * 16) last p, mul-assoc 15 later p, times later p)
+        where
+          times : (x y : ℕ) → x * 16 * y ≡ x * y * 16
+          times x y = mul-assoc x 16 y ∙ ap (λ (z : ℕ). x * z) (mul-comm 16 y) ∙ sym (mul-assoc x y 16)
+
+  pub sum-fits : kept + ((15 * later + last) * 2 ^ (4 * (i + 1))) % 2 ^ 64 + 1 < 2 ^ 64
+  sum-fits =
+      join-lt (w - i) (i + 1) 16 sum (omega (arith, last-lt, later-lt, widened))
+      (next-size-lt w word i (omega arith) (omega arith) ek (let z : kept % 2 ^ (4 * (i + 1)) ≡ kept % 2 ^ (4 * (i + 1)) = refl in z)) (omega arith)
+
+  pub shift-fits : kept + ((15 * later + last) * 2 ^ (4 * (i + 1))) % 2 ^ 64 < 2 ^ 64
+  shift-fits = omega (arith, sum-fits)
+
+  pub inserted-sum : kept + ((15 * later + last) * 2 ^ (4 * (i + 1))) % 2 ^ 64 + 1 ≡ wordOf (insertedFromBack i (bankOf w word))
+  inserted-sum = sum ∙ rw (et, ek, el) (inserted-here w word h i (omega arith))
+
+pub ruleset inserts = (times-fits, gain-fits, shift-fits, sum-fits, inserted-sum)
 
 pub moved-here : {r : ℕ} (n : ℕ) (ps : List ℕ) → r ≡ pack ps → r * 16 + n ≡ pack (n ∷ ps)
 unfolding pack

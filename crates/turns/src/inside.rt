@@ -39,14 +39,24 @@ pub fn moved(word: u64, width: usize, a: usize, b: usize, c: usize, size: usize)
     join(size as u64, turn(high(word, 1), width, a, b, c), 1)
 }
 
-// The slot at the back goes to position i, the later ones move up, and one more is in use.
+// The nibbles below the width, where those from the width on are at hand.
+fn below(word: u64, last: u64, width: usize) -> u64
+    requires { ⌜ (width ≤ 15) × (last ≡ word / 2 ^ (4 * width)) ⌝ }
+    ensures { λ r. ⌜ r ≡ word % 2 ^ (4 * width) ⌝ }
+{
+    word - (last << (4 * width))
+}
+
+// The slot at the back goes to position i, the later ones move up, and one more is in use. It is one sum: what moves up by a nibble
+// becomes sixteen times as much, so fifteen times as much is added to it, and the slot at the back goes below.
 pub fn inserted(word: u64, width: usize, i: usize) -> u64
     requires { ⌜ (i ≤ word % 16) × (word % 16 < width) × (width ≤ 15) × (word < 2 ^ (4 * (width + 1))) ⌝ }
     ensures { λ r. ⌜ r ≡ wordOf (insertedFromBack i (bankOf width word)) ⌝ }
 {
-    let kept = low(word, width);
-    let from_i = join(high(word, width), high(kept, i + 1), 1);
-    join(low(kept, i + 1) + 1, from_i, i + 1)
+    let last = high(word, width);
+    let kept = below(word, last, width);
+    let later = high(kept, i + 1);
+    kept + ((15 * later + last) << (4 * (i + 1))) + 1
 }
 
 // Sets nibble k to d; the others stay.

@@ -1,5 +1,5 @@
 -- Laws on the walk: one for each way that the code returns, from what is known there. Assumes nothing.
-use mathlib.Core.Path.{_≡_, refl, sym, ap, _∙_}
+use mathlib.Core.Path.{_≡_, refl, sym, ap, _∙_, subst}
 use mathlib.Core.Bool.{Bool, true, false, _&&_}
 use mathlib.Core.List.{List, [], _∷_, _++_, map}
 use mathlib.Core.Option.{Option, none, some}
@@ -10,22 +10,22 @@ use native.Mathlib.Omega.{arith}
 use borrow.Author.Needs.{needs}
 use borrow.Author.Tests.{not-true, not-false, eq-eqb, ne-eqb, leb-true, lt-ltb, le-ltb}
 use lib.Dec.{eqb, leb, ltb}
-use lib.ListN.{length, getD, set, take, drop, length-map, length-replicate, drop-of-length-le, List·getD-map, List·getD-eq-default}
-use lib.Seq.{drop-cons, take-suc-set, length-take-le, take-at}
+use lib.ListN.{length, getD, set, take, drop, length-map, drop-of-length-le, List·getD-map, List·getD-eq-default}
+use lib.Seq.{drop-cons, take-suc-set, take-set-le}
 use Rattle.bank.specs.Bank.{slotAt}
 use Rattle.nibbles.specs.Words.{validWord}
 use Rattle.leaf_entries.specs.declared.Entry.{Entry}
 use Rattle.leaf.specs.Lists.{every}
 use Rattle.leaf.specs.Leaf.{slotsOf, rising, none as no-entry}
 use Rattle.internode.specs.Lists as internode
-use Rattle.arena.specs.Parts.{part, putPart, zeros}
+use Rattle.arena.specs.Parts.{part}
 use Rattle.arena.specs.Layout.{nodeStart, kindAt, wordAt, markAt}
 use Rattle.arena.specs.Memory.{Memory, memory}
-use Rattle.arena.proofs.Words.{part-at, part-length, put-length}
+use Rattle.arena.proofs.Words.{part-at, part-length}
 use Rattle.forest.specs.Nodes.{allZero, entryAt, entriesAt, restAt, ofClass, isZero, ikeysAt, childrenAt, countAt, leafRight, internodeRight}
 use Rattle.forest.specs.Cells.{cellRight, filed}
 use Rattle.forest.specs.Trees.{Key, Ref, seenAs, nodeNo, cellNo, leftmost, rightmost}
-use Rattle.forest.specs.Walk.{Seen, Step, when, andThen, each, see, walkEntry, spans, walkSpan, walkLeaf, walkInternode, walkNode, heightAt, walkOne, walkLayer}
+use Rattle.forest.specs.Walk.{Seen, Step, when, andThen, each, see, walkRef, walkEntry, spans, walkSpan, walkLeaf, walkInternode, walkNode, heightAt, walkOne, walkLayer}
 use Rattle.forest.proofs.InUse as in-use
 use Rattle.forest.proofs.Heights.{height-most}
 use Rattle.forest.proofs.InUse.{seen-ikey}
@@ -41,24 +41,6 @@ told-not s e f = sym (rw f at e)
 told-so : {r : Bool} (s : Seen) {o : Option Seen} → told r s ≡ o → r ≡ true → o ≡ some s
 unfolding told
 told-so s e f = sym (rw f at e)
-
--- ---- a number
-
-module _ (seen : Seen) (i : ℕ) (l : i < length seen) where
-  default : (xs : List ℕ) (j a b : ℕ) → j < length xs → getD xs j a ≡ getD xs j b
-  default [] j a b h = absurd (omega arith)
-  default (x ∷ xs) zero a b h = refl
-  default (x ∷ xs) (suc j) a b h = default xs j a b (omega arith)
-
-  pub see-old : (getD seen i 0 ≡ 0 → ⊥) → told false seen ≡ see i seen
-  unfolding see told
-  see-old h = rw (default seen i 1 0 l, ne-eqb _ _ h)
-
-  pub see-new : getD seen i 0 ≡ 0 → told true (set seen i 1) ≡ see i seen
-  unfolding see told
-  see-new h = rw (default seen i 1 0 l, eq-eqb _ _ h)
-
-pub ruleset sees = (needs, see-old, see-new)
 
 -- ---- a cell
 
@@ -116,25 +98,46 @@ module _ (m : Memory) (above : List ℕ) (links : ℕ) (e : Entry) (seen : Seen)
   unfolding refsAt seenAs below told
   entry-deep c l = rw (eq-eqb _ _ c, l)
 
-  way-is : (way : List ℕ) → length above ≡ 32 → links ≤ 31 → way ≡ set (putPart (zeros 32) 0 (part above 0 links)) links (e .ikey)
-      → take (links + 1) way ≡ take links above ++ e .ikey ∷ []
-  unfolding part putPart
-  way-is way a l w =
-      let t : length (take links above) ≡ links = length-take-le links above (omega arith) in
-      let p : length (putPart (zeros 32) 0 (part above 0 links)) ≡ 32
-      = put-length (zeros 32) 0 (part above 0 links) (rw t (omega (arith, length-replicate {A = ℕ} 32 0))) ∙ length-replicate {A = ℕ} 32 0 in
-      rw (w, add-one links, take-suc-set (putPart (zeros 32) 0 (part above 0 links)) links (e .ikey) (omega arith))
-      (ap (λ (x : List ℕ). x ++ e .ikey ∷ []) (take-at (take links above) _ links t))
-
-  pub entry-link : {o : Option Seen} {way1 way : List ℕ} → e .class ≡ 10 → (links ≡ 31 → ⊥) → length above ≡ 32 → links ≤ 31
-      → way1 ≡ putPart (zeros 32) 0 (part above 0 links) → way ≡ set way1 links (e .ikey)
-      → o ≡ walkLayer (31 - (links + 1)) m (take (links + 1) way) (e .at) seen
+  pub entry-link : {o : Option Seen} {way : List ℕ} → e .class ≡ 10 → (links ≡ 31 → ⊥) → length above ≡ 32 → links ≤ 31
+      → way ≡ set above links (e .ikey) → o ≡ walkLayer (31 - (links + 1)) m (take (links + 1) way) (e .at) seen
       → o ≡ refsAt m above links (seenAs e .0) (seenAs e .1) seen
   unfolding refsAt seenAs below
-  entry-link {way = way} c n a l w1 w f =
+  entry-link {way = way} c n a l w f =
       let d : 31 - links ≡ suc (31 - (links + 1)) = omega arith in
-      let q : take (links + 1) way ≡ take links above ++ e .ikey ∷ [] = way-is way a l (w ∙ rw w1) in
+      let q : take (links + 1) way ≡ take links above ++ e .ikey ∷ []
+      = rw (w, add-one links) (take-suc-set above links (e .ikey) (omega arith)) in
       rw (eq-eqb _ _ c, d) (rw q at f)
+
+-- the way down behind a link, written in place: what stands before it stays
+fewer : (n : ℕ) (xs : List ℕ) → take n (take (n + 1) xs) ≡ take n xs
+fewer n xs = rw (add-one n) (by n xs)
+  where
+    by : (n : ℕ) (xs : List ℕ) → take n (take (suc n) xs) ≡ take n xs
+    by zero xs = refl
+    by (suc n) [] = refl
+    by (suc n) (x ∷ xs) = ap (λ (ys : List ℕ). x ∷ ys) (by n xs)
+
+pub way-kept : (above : List ℕ) (links x : ℕ) {way : List ℕ} (after : List ℕ) → way ≡ set above links x
+    → take (links + 1) after ≡ take (links + 1) way → take links after ≡ take links above
+way-kept above links x {way} after w e =
+    sym (fewer links after) ∙ ap (take links) e ∙ fewer links way ∙ ap (take links) w ∙ take-set-le links above links x (omega arith)
+
+-- the walk of what an entry has, where the way down was written on behind the links
+module _ (m : Memory) (links : ℕ) (before above : List ℕ) (e : take links above ≡ take links before) where
+  refs-same : refsAt m before links ≡ refsAt m above links
+  unfolding refsAt
+  refs-same = ap (λ (ks : List ℕ). walkRef (below (31 - links) m) m ks) (sym e)
+
+  pub entries-on : (lo hi : ℕ) (xs : List (Key × Ref)) (seen : Seen) {total : Option Seen}
+      → each (walkEntry (refsAt m before links) lo hi) xs seen ≡ total → each (walkEntry (refsAt m above links) lo hi) xs seen ≡ total
+  entries-on lo hi xs seen {total} f =
+      subst (λ (ref : Key → Ref → Step). each (walkEntry ref lo hi) xs seen ≡ total) refs-same f
+
+  pub spans-on : (nodes : List ℕ) (h : ℕ) (xs : List (ℕ × ℕ × ℕ)) (seen : Seen) {total : Option Seen}
+      → each (walkSpan (walkNode (refsAt m before links) nodes h)) xs seen ≡ total
+      → each (walkSpan (walkNode (refsAt m above links) nodes h)) xs seen ≡ total
+  spans-on nodes h xs seen {total} f =
+      subst (λ (ref : Key → Ref → Step). each (walkSpan (walkNode ref nodes h)) xs seen ≡ total) refs-same f
 
 -- ---- a leaf
 
@@ -357,7 +360,7 @@ layer-down nodes cells bytes above links root seen e f =
     rw (layer-is (31 - links) (memory nodes cells bytes) (take links above) root seen) (rw e at f)
 
 -- what the answers to the needs of each function are found among
-pub ruleset entrywise = (needs, entry-cell, entry-deep, entry-link)
+pub ruleset entrywise = (needs, entry-cell, entry-deep, entry-link, way-kept)
 
 pub ruleset leafwise = (needs, not-true, not-false, leaf-not, leaf-start, leaf-valid, leaf-end, leaf-next)
 

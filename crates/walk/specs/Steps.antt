@@ -1,21 +1,18 @@
 -- What the steps of the walk say, and what they count on.
 use Prim.Native.Nat.{ℕ, zero, suc, _+_, _-_, _*_, _/_, _≤_}
 use mathlib.Core.Path.{_≡_}
-use mathlib.Core.Bool.{Bool, true, false, cond}
+use mathlib.Core.Bool.{Bool, true, cond}
 use mathlib.Core.List.{List}
-use mathlib.Core.Option.{Option, none, some}
+use mathlib.Core.Option.{none}
 use lib.ListN.{length, getD, take}
+use Rattle.memory_layout.specs.Numbers.{headerWords, nodeWords, cellWords, cellBytes, mostLent}
 use Rattle.leaf_entries.specs.declared.Entry.{Entry}
 use Rattle.arena.specs.Memory.{Memory}
 use Rattle.forest.specs.Cells.{filed}
 use Rattle.forest.specs.Trees.{Key, Ref, cellNo}
 use Rattle.forest.specs.Walk.{Seen, Step, when, see, walkRef, walkLayer}
 use Rattle.edge.specs.declared.Edge.{Edge}
-
--- what a step of the walk tells: where it says no, the numbers seen are of no use any more
-unfoldable pub told : Bool → Seen → Option Seen
-told true seen = some seen
-told false seen = none
+unfoldable pub use Rattle.audit_seen.specs.Seen.{told}
 
 -- the walk of the layers that may follow where so many links were taken: none after 31
 unfoldable pub below : ℕ → Memory → List ℕ → ℕ → Step
@@ -37,11 +34,11 @@ edgeAt nodes at inner high = cond inner (record { known = true; ikey = getD node
 
 -- what the walk counts on: right lengths, room for every number, and at most 31 links
 pub record Lent (nodes cells bytes seen above : List ℕ) (links : ℕ) : Type 0 where
-  pub nodes-few : length nodes ≤ 2 + 255 * 47
-  pub nodes-whole : length nodes ≡ 2 + (length nodes / 47) * 47
+  pub nodes-few : length nodes ≤ headerWords + mostLent * nodeWords
+  pub nodes-whole : length nodes ≡ headerWords + (length nodes / nodeWords) * nodeWords
   pub cells-few : length cells ≤ 510
   pub cells-whole : length cells ≡ (length cells / 2) * 2
-  pub bytes-whole : length bytes ≡ (length cells / 2) * 256
+  pub bytes-whole : length bytes ≡ (length cells / cellWords) * cellBytes
   pub room : length seen ≡ 510
   pub way : length above ≡ 32
   pub few : links ≤ 31
@@ -50,7 +47,7 @@ pub record Lent (nodes cells bytes seen above : List ℕ) (links : ℕ) : Type 0
 pub record LentCells (cells bytes seen above : List ℕ) (links : ℕ) : Type 0 where
   pub cells-few : length cells ≤ 510
   pub cells-whole : length cells ≡ (length cells / 2) * 2
-  pub bytes-whole : length bytes ≡ (length cells / 2) * 256
+  pub bytes-whole : length bytes ≡ (length cells / cellWords) * cellBytes
   pub room : length seen ≡ 510
   pub way : length above ≡ 32
   pub few : links ≤ 31

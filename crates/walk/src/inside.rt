@@ -3,29 +3,39 @@
 ghost use mathlib.Core.Path.{_≡_};
 ghost use Prim.Native.Nat.{_+_, _-_, _≤_, _<_};
 ghost use lib.ListN.{length, take};
-ghost use Rattle.arena.specs.Layout.{nodeStart};
+ghost use Rattle.arena.specs.Layout.{nodeEnd};
 ghost use Rattle.arena.specs.Memory.{memory};
 ghost use Rattle.forest.specs.Trees.{seenAs};
-ghost use Rattle.forest.specs.Walk.{see, walkLeaf, walkInternode, walkNode, walkLayer};
+ghost use Rattle.forest.specs.Walk.{walkLeaf, walkInternode, walkNode, walkLayer};
 ghost use Rattle.edge.specs.Edges.{leftOf, rightOf};
 ghost use Rattle.walk.specs.Steps.{edgeAt, told, refsAt, cellOf, Lent, LentCells};
+use audit_seen::inside::see_number;
 use edge::Edge;
 use leaf::Entry;
+use memory_layout::CELL_WORDS;
+use memory_layout::CHILDREN;
+use memory_layout::HEADER_WORDS;
+use memory_layout::IKEYS;
+use memory_layout::NODE_WORDS;
 
-// Walks one layer from its root on; false at the first thing that is against the rules.
+// Walks one layer from its root on; false at the first thing that is against the rules. `above` has the ikeys of the links taken so far
+// at its front: a walk writes those of its own links behind them, and leaves the front as it was.
 pub fn walk_layer(
     nodes: &[u64],
     cells: &[u64],
     bytes: &[u8],
     seen: &mut [u8],
-    above: &[u64],
+    above: &mut [u64],
     links: usize,
     root: u64,
 ) -> bool
     requires { ⌜ Lent (now nodes) (now cells) (now bytes) (now seen) (now above) links ⌝ }
-    ensures { λ r. ⌜ told r (now (seen .exit)) ≡ walkLayer (31 - links) (memory (now (nodes .entry)) (now (cells .entry)) (now (bytes .entry))) (take links (now (above .entry))) root (now (seen .entry)) ⌝ }
+    ensures { λ r. ⌜ told r (now (seen .exit))
+        ≡ walkLayer (31 - links) (memory (now (nodes .entry)) (now (cells .entry)) (now (bytes .entry)))
+        (take links (now (above .entry))) root (now (seen .entry)) ⌝ }
+    ensures { λ r. ⌜ take links (now (above .exit)) ≡ take links (now (above .entry)) ⌝ }
 {
-    let h = shape::inside::height(nodes, nodes.len() / 47, root);
+    let h = shape::inside::height(nodes, nodes.len() / NODE_WORDS, root);
     let open = Edge {
         known: false,
         ikey: 0,
@@ -39,7 +49,7 @@ fn walk_node(
     cells: &[u64],
     bytes: &[u8],
     seen: &mut [u8],
-    above: &[u64],
+    above: &mut [u64],
     links: usize,
     h: usize,
     low: Edge,
@@ -47,9 +57,12 @@ fn walk_node(
     n: u64,
 ) -> bool
     requires { ⌜ Lent (now nodes) (now cells) (now bytes) (now seen) (now above) links ⌝ }
-    ensures { λ r. ⌜ told r (now (seen .exit)) ≡ walkNode (refsAt (memory (now (nodes .entry)) (now (cells .entry)) (now (bytes .entry))) (now (above .entry)) links) (now (nodes .entry)) h (leftOf low) (rightOf high) n (now (seen .entry)) ⌝ }
+    ensures { λ r. ⌜ told r (now (seen .exit))
+        ≡ walkNode (refsAt (memory (now (nodes .entry)) (now (cells .entry)) (now (bytes .entry))) (now (above .entry)) links)
+        (now (nodes .entry)) h (leftOf low) (rightOf high) n (now (seen .entry)) ⌝ }
+    ensures { λ r. ⌜ take links (now (above .exit)) ≡ take links (now (above .entry)) ⌝ }
 {
-    if (nodes.len() / 47) as u64 <= n {
+    if (nodes.len() / NODE_WORDS) as u64 <= n {
         return false;
     }
     let k = n as usize;
@@ -68,20 +81,23 @@ fn walk_leaf(
     cells: &[u64],
     bytes: &[u8],
     seen: &mut [u8],
-    above: &[u64],
+    above: &mut [u64],
     links: usize,
     low: Edge,
     high: Edge,
     k: usize,
 ) -> bool
     requires { ⌜ Lent (now nodes) (now cells) (now bytes) (now seen) (now above) links ⌝ }
-    requires { ⌜ nodeStart k + 47 ≤ length (now nodes) ⌝ }
-    ensures { λ r. ⌜ told r (now (seen .exit)) ≡ walkLeaf (refsAt (memory (now (nodes .entry)) (now (cells .entry)) (now (bytes .entry))) (now (above .entry)) links) (now (nodes .entry)) (leftOf low) (rightOf high) k (now (seen .entry)) ⌝ }
+    requires { ⌜ nodeEnd k ≤ length (now nodes) ⌝ }
+    ensures { λ r. ⌜ told r (now (seen .exit))
+        ≡ walkLeaf (refsAt (memory (now (nodes .entry)) (now (cells .entry)) (now (bytes .entry))) (now (above .entry)) links)
+        (now (nodes .entry)) (leftOf low) (rightOf high) k (now (seen .entry)) ⌝ }
+    ensures { λ r. ⌜ take links (now (above .exit)) ≡ take links (now (above .entry)) ⌝ }
 {
     if !shape::inside::leaf_right(nodes, k) {
         return false;
     }
-    let word = nodes[2 + k * 47 + 1];
+    let word = nodes[HEADER_WORDS + k * NODE_WORDS + 1];
     let size = leaf::inside::size_of(word);
     let mut i: usize = 0;
     // The entries before position i lie between the edges and are walked.
@@ -105,12 +121,15 @@ fn walk_entry(
     cells: &[u64],
     bytes: &[u8],
     seen: &mut [u8],
-    above: &[u64],
+    above: &mut [u64],
     links: usize,
     e: Entry,
 ) -> bool
     requires { ⌜ Lent (now nodes) (now cells) (now bytes) (now seen) (now above) links ⌝ }
-    ensures { λ r. ⌜ told r (now (seen .exit)) ≡ refsAt (memory (now (nodes .entry)) (now (cells .entry)) (now (bytes .entry))) (now (above .entry)) links (seenAs e .0) (seenAs e .1) (now (seen .entry)) ⌝ }
+    ensures { λ r. ⌜ told r (now (seen .exit))
+        ≡ refsAt (memory (now (nodes .entry)) (now (cells .entry)) (now (bytes .entry))) (now (above .entry)) links (seenAs e .0)
+        (seenAs e .1) (now (seen .entry)) ⌝ }
+    ensures { λ r. ⌜ take links (now (above .exit)) ≡ take links (now (above .entry)) ⌝ }
 {
     if e.class != 10 {
         return walk_cell(cells, bytes, seen, above, links, e);
@@ -118,10 +137,8 @@ fn walk_entry(
     if links == 31 {
         return false;
     }
-    let mut way = [0u64; 32];
-    arena::inside::copy_words(above, 0, &mut way, 0, links);
-    arena::inside::put1(&mut way, links, e.ikey);
-    walk_layer(nodes, cells, bytes, seen, &way, links + 1, e.at)
+    arena::inside::put1(above, links, e.ikey);
+    walk_layer(nodes, cells, bytes, seen, above, links + 1, e.at)
 }
 
 // Whether an entry's cell is there and rightly filed; takes its number.
@@ -134,9 +151,10 @@ fn walk_cell(
     e: Entry,
 ) -> bool
     requires { ⌜ LentCells (now cells) (now bytes) (now seen) (now above) links ⌝ }
-    ensures { λ r. ⌜ told r (now (seen .exit)) ≡ cellOf (now (cells .entry)) (now (bytes .entry)) (take links (now (above .entry))) e (now (seen .entry)) ⌝ }
+    ensures { λ r. ⌜ told r (now (seen .exit))
+        ≡ cellOf (now (cells .entry)) (now (bytes .entry)) (take links (now (above .entry))) e (now (seen .entry)) ⌝ }
 {
-    if (cells.len() / 2) as u64 <= e.at {
+    if (cells.len() / CELL_WORDS) as u64 <= e.at {
         return false;
     }
     let c = e.at as usize;
@@ -152,7 +170,7 @@ fn walk_internode(
     cells: &[u64],
     bytes: &[u8],
     seen: &mut [u8],
-    above: &[u64],
+    above: &mut [u64],
     links: usize,
     h: usize,
     low: Edge,
@@ -160,23 +178,27 @@ fn walk_internode(
     k: usize,
 ) -> bool
     requires { ⌜ Lent (now nodes) (now cells) (now bytes) (now seen) (now above) links ⌝ }
-    requires { ⌜ nodeStart k + 47 ≤ length (now nodes) ⌝ }
-    ensures { λ r. ⌜ told r (now (seen .exit)) ≡ walkInternode (walkNode (refsAt (memory (now (nodes .entry)) (now (cells .entry)) (now (bytes .entry))) (now (above .entry)) links) (now (nodes .entry)) h) (now (nodes .entry)) (leftOf low) (rightOf high) k (now (seen .entry)) ⌝ }
+    requires { ⌜ nodeEnd k ≤ length (now nodes) ⌝ }
+    ensures { λ r. ⌜ told r (now (seen .exit))
+        ≡ walkInternode (walkNode (refsAt (memory (now (nodes .entry)) (now (cells .entry)) (now (bytes .entry)))
+        (now (above .entry)) links) (now (nodes .entry)) h) (now (nodes .entry)) (leftOf low) (rightOf high) k
+        (now (seen .entry)) ⌝ }
+    ensures { λ r. ⌜ take links (now (above .exit)) ≡ take links (now (above .entry)) ⌝ }
 {
     if !shape::inside::internode_right(nodes, k) {
         return false;
     }
-    let at = 2 + k * 47;
+    let at = HEADER_WORDS + k * NODE_WORDS;
     let n = nodes[at + 1] as usize;
     let mut left = low;
     let mut i: usize = 0;
     // The first i children are walked, and `left` is the edge between them and the next.
     while i <= n {
-        let right = right_edge(nodes, at + 2 + i, i < n, high);
+        let right = right_edge(nodes, at + IKEYS + i, i < n, high);
         if !edge::inside::is_between(left, right) {
             return false;
         }
-        let c = nodes[at + 17 + i];
+        let c = nodes[at + CHILDREN + i];
         if !walk_node(nodes, cells, bytes, seen, above, links, h, left, right, c) {
             return false;
         }
@@ -198,16 +220,4 @@ fn right_edge(nodes: &[u64], at: usize, inner: bool, high: Edge) -> Edge
         known: true,
         ikey: nodes[at],
     }
-}
-
-// Marks a number; false if it was marked.
-fn see_number(seen: &mut [u8], i: usize) -> bool
-    requires { ⌜ i < length (now seen) ⌝ }
-    ensures { λ r. ⌜ told r (now (seen .exit)) ≡ see i (now (seen .entry)) ⌝ }
-{
-    if seen[i] != 0 {
-        return false;
-    }
-    seen[i] = 1;
-    true
 }

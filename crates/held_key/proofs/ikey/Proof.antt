@@ -1,12 +1,12 @@
--- `held_key::ikey` meets its contract: the walk of `Asking.antt`, at `key::ikey`. Assumes nothing.
+-- `held_key::ikey` meets its contract: the walk of `Asking.antt` (crate `keys_held_bytes`), at `key::ikey`. Assumes nothing.
 use contract.Running.{givenOf, tables, tablesOf}
 use denote.Triple.Spec.{tripleOf}
 use denote.Triple.Table.{entered, cited}
 use Rattle.key_questions.proofs.ikey.Symbol as g-def
 use Rattle.key_questions.proofs.ikey.Symbol.{name as #g}
 use Rattle.key_questions.proofs.ikey.Met as g-thm
-use Rattle.held_key.proofs.Asking.{Asks, asks}
-use Rattle.held_key.proofs.Answers.{word, SaysWord}
+use Rattle.keys_held_bytes.proofs.Asking.{Asks, asks}
+use Rattle.keys_held_bytes.proofs.Answers.{word, SaysWord}
 use Rattle.held_key.proofs.ikey.Key.{name as #f}
 use Rattle.held_key.proofs.ikey as f
 use Rattle.held_key.proofs.ikey.Statement as stated

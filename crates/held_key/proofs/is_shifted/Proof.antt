@@ -1,13 +1,13 @@
--- `held_key::is_shifted` meets its contract: the walk of `Asking.antt`, at `key::is_shifted`. Assumes nothing.
+-- `held_key::is_shifted` meets its contract: the walk of `Asking.antt` (crate `keys_held_bytes`), at `key::is_shifted`. Assumes nothing.
 use lib.Dec.{ltb}
 use contract.Running.{givenOf, tables, tablesOf}
 use denote.Triple.Spec.{tripleOf}
 use denote.Triple.Table.{entered, cited}
-use Rattle.key_questions.proofs.is_shifted.Symbol as g-def
-use Rattle.key_questions.proofs.is_shifted.Symbol.{name as #g}
-use Rattle.key_questions.proofs.is_shifted.Met as g-thm
-use Rattle.held_key.proofs.Asking.{Asks, asks}
-use Rattle.held_key.proofs.Answers.{told, SaysTold}
+use Rattle.keys_told.proofs.is_shifted.Symbol as g-def
+use Rattle.keys_told.proofs.is_shifted.Symbol.{name as #g}
+use Rattle.keys_told.proofs.is_shifted.Met as g-thm
+use Rattle.keys_held_bytes.proofs.Asking.{Asks, asks}
+use Rattle.keys_held_bytes.proofs.Answers.{told, SaysTold}
 use Rattle.held_key.proofs.is_shifted.Key.{name as #f}
 use Rattle.held_key.proofs.is_shifted as f
 use Rattle.held_key.proofs.is_shifted.Statement as stated
@@ -21,4 +21,4 @@ is-shifted-spec 𝓤 H 𝓜 𝓖 𝓡 =
     (asks told (SaysTold (λ s i c a. ltb 0 c)) 𝓤 H (𝓖 .A) (givenOf 𝓤 H 𝓜 𝓖)
     (tablesOf 𝓤 H 𝓜 (tables 𝓤 H 𝓜 𝓡 code.env)) #g
     (cited 𝓤 H (Asks told (SaysTold (λ s i c a. ltb 0 c)) 𝓤 H (𝓖 .A)) 𝓜 𝓡 code.env #g
-    g-def.routine code.calls-key-questions·is-shifted (g-thm.met 𝓤 H 𝓜 𝓖 𝓡)))
+    g-def.routine code.calls-keys-told·is-shifted (g-thm.met 𝓤 H 𝓜 𝓖 𝓡)))

@@ -1,12 +1,12 @@
--- `held_key::judge` meets its contract: the walk of `Asking.antt`, at `key::judge`. Assumes nothing.
+-- `held_key::judge` meets its contract: the walk of `Asking.antt` (crate `keys_held_bytes`), at `key::judge`. Assumes nothing.
 use contract.Running.{givenOf, tables, tablesOf}
 use denote.Triple.Spec.{tripleOf}
 use denote.Triple.Table.{entered, cited}
-use Rattle.key_moves.proofs.judge.Symbol as g-def
-use Rattle.key_moves.proofs.judge.Symbol.{name as #g}
-use Rattle.key_moves.proofs.judge.Met as g-thm
-use Rattle.held_key.proofs.Asking.{Asks, asks}
-use Rattle.held_key.proofs.Answers.{judged, SaysJudged}
+use Rattle.keys_made.proofs.judge.Symbol as g-def
+use Rattle.keys_made.proofs.judge.Symbol.{name as #g}
+use Rattle.keys_made.proofs.judge.Met as g-thm
+use Rattle.keys_held_bytes.proofs.Asking.{Asks, asks}
+use Rattle.keys_held_bytes.proofs.Answers.{judged, SaysJudged}
 use Rattle.held_key.proofs.judge.Key.{name as #f}
 use Rattle.held_key.proofs.judge as f
 use Rattle.held_key.proofs.judge.Statement as stated
@@ -20,4 +20,4 @@ judge-spec 𝓤 H 𝓜 𝓖 𝓡 =
     (asks judged SaysJudged 𝓤 H (𝓖 .A) (givenOf 𝓤 H 𝓜 𝓖)
     (tablesOf 𝓤 H 𝓜 (tables 𝓤 H 𝓜 𝓡 code.env)) #g
     (cited 𝓤 H (Asks judged SaysJudged 𝓤 H (𝓖 .A)) 𝓜 𝓡 code.env #g
-    g-def.routine code.calls-key-moves·judge (g-thm.met 𝓤 H 𝓜 𝓖 𝓡)))
+    g-def.routine code.calls-keys-made·judge (g-thm.met 𝓤 H 𝓜 𝓖 𝓡)))

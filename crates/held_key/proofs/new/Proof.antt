@@ -38,19 +38,20 @@ use denote.Triple.Table.{entered, cited}
 use denote.Triple.Walked.{says, Stays, stay-none-slice, walkOf, goes-none-slice, Walks, ends-at, walked, walk-meets}
 use denote.Exit.{yes}
 use Rattle.key_layer.specs.Keys.{newSaid}
-use Rattle.held_key.specs.Held.{numbersIn, holding}
-use Rattle.held_key.specs.declared.Keyed.{Keyed}
-use Rattle.held_key.specs.declared.Numbers.{Numbers}
+use Rattle.keys_moved_numbers.specs.Numbers.{numbersIn}
+use Rattle.keys_held.specs.Held.{holding}
+use Rattle.keys_held.specs.declared.Keyed.{Keyed}
+use Rattle.keys_moved_numbers.specs.declared.Numbers.{Numbers}
 use Rattle.held_key.proofs.Holding.{Hold, to-hold, asks-hold, held}
-use Rattle.held_key.proofs.hold as h
-use Rattle.held_key.proofs.hold.Symbol as hold-def
-use Rattle.held_key.proofs.hold.Symbol.{name as #hold}
-use Rattle.held_key.proofs.hold.Met as hold-thm
-use Rattle.held_key.proofs.Keyed as K
-use Rattle.held_key.proofs.Whole.{OwnSlice}
-use Rattle.held_key.proofs.Keyed.Laws as K′
-use Rattle.held_key.proofs.Numbers as N
-use Rattle.held_key.proofs.Numbers.Laws as N′
+use Rattle.keys_held.proofs.hold as h
+use Rattle.keys_held.proofs.hold.Symbol as hold-def
+use Rattle.keys_held.proofs.hold.Symbol.{name as #hold}
+use Rattle.keys_held.proofs.hold.Met as hold-thm
+use Rattle.keys_held.proofs.Keyed as K
+use Rattle.keys_held.proofs.Whole.{OwnSlice}
+use Rattle.keys_held.proofs.Keyed.Laws as K′
+use Rattle.keys_moved_numbers.proofs.Numbers as N
+use Rattle.keys_moved_numbers.proofs.Numbers.Laws as N′
 use Rattle.held_key.proofs.plain.made as g
 use Rattle.held_key.proofs.plain.made.Symbol as g-def
 use Rattle.held_key.proofs.plain.made.Symbol.{name as #g}
@@ -186,4 +187,4 @@ new-spec 𝓤 H 𝓜 𝓖 𝓡 =
     (cited 𝓤 H (G 𝓤 H (𝓖 .A) (𝓜 .mem) (𝓡 .run)) 𝓜 𝓡 code.env #g
     g-def.routine code.calls-held-key·plain·made (g-thm.met 𝓤 H 𝓜 𝓖 𝓡))
     (cited 𝓤 H (Hold 𝓤 H (𝓖 .A) (𝓜 .mem) (𝓡 .run)) 𝓜 𝓡 code.env #hold
-    hold-def.routine code.calls-held-key·hold (hold-thm.met 𝓤 H 𝓜 𝓖 𝓡)))
+    hold-def.routine code.calls-keys-held·hold (hold-thm.met 𝓤 H 𝓜 𝓖 𝓡)))

@@ -1,7 +1,6 @@
--- `held_key::shift_by` meets its contract: a walk of its MIR, by hand. The key is taken apart, `plain::shifted_by` is called on the
--- slice, the
--- numbers and the number that is passed, and `hold` on the slice and the numbers that it answers.
--- A key is Copy: one copy of what it owns is kept whole for the exit (`Whole.antt`).
+-- `held_key::shift_by` meets its contract: a walk of its MIR, by hand. The key is taken apart, `keys_moved_numbers::shifted_by` is
+-- called on the slice, the numbers and the number that is passed, and `hold` on the slice and the numbers that it answers.
+-- A key is Copy: one copy of what it owns is kept whole for the exit (`Whole.antt` of crate `keys_held`).
 -- Assumes nothing.
 use mathlib.Core.Path.{_≡_, refl, ap, _∙_}
 use Prim.Native.Nat.{ℕ, _<_, _^_}
@@ -44,26 +43,27 @@ use denote.Triple.Table.{entered, cited}
 use denote.Triple.Walked.{says, Stays, stay-none, walkOf, goes-none, Walks, ends-at, walked, walk-meets}
 use denote.Exit.{yes}
 use Rattle.key_layer.specs.Keys.{shiftBySaid}
-use Rattle.held_key.specs.Held.{numbersIn, holding}
-use Rattle.held_key.specs.declared.Key.{Key}
-use Rattle.held_key.specs.declared.Keyed.{Keyed}
-use Rattle.held_key.specs.declared.Numbers.{Numbers}
+use Rattle.keys_moved_numbers.specs.Numbers.{numbersIn}
+use Rattle.keys_held.specs.Held.{holding}
+use Rattle.keys_held.specs.declared.Key.{Key}
+use Rattle.keys_held.specs.declared.Keyed.{Keyed}
+use Rattle.keys_moved_numbers.specs.declared.Numbers.{Numbers}
 use Rattle.held_key.proofs.Holding.{Hold, to-hold, asks-hold, held}
-use Rattle.held_key.proofs.hold as h
-use Rattle.held_key.proofs.hold.Symbol as hold-def
-use Rattle.held_key.proofs.hold.Symbol.{name as #hold}
-use Rattle.held_key.proofs.hold.Met as hold-thm
-use Rattle.held_key.proofs.Keyed as K
-use Rattle.held_key.proofs.Whole.{OwnSlice, OwnKey, Passed, apart, taken}
-use Rattle.held_key.proofs.Key as T
-use Rattle.held_key.proofs.Key.Laws as T′
-use Rattle.held_key.proofs.Keyed.Laws as K′
-use Rattle.held_key.proofs.Numbers as N
-use Rattle.held_key.proofs.Numbers.Laws as N′
-use Rattle.held_key.proofs.plain.shifted_by as g
-use Rattle.held_key.proofs.plain.shifted_by.Symbol as g-def
-use Rattle.held_key.proofs.plain.shifted_by.Symbol.{name as #g}
-use Rattle.held_key.proofs.plain.shifted_by.Met as g-thm
+use Rattle.keys_held.proofs.hold as h
+use Rattle.keys_held.proofs.hold.Symbol as hold-def
+use Rattle.keys_held.proofs.hold.Symbol.{name as #hold}
+use Rattle.keys_held.proofs.hold.Met as hold-thm
+use Rattle.keys_held.proofs.Keyed as K
+use Rattle.keys_held.proofs.Whole.{OwnSlice, OwnKey, Passed, apart, taken}
+use Rattle.keys_held.proofs.Key as T
+use Rattle.keys_held.proofs.Key.Laws as T′
+use Rattle.keys_held.proofs.Keyed.Laws as K′
+use Rattle.keys_moved_numbers.proofs.Numbers as N
+use Rattle.keys_moved_numbers.proofs.Numbers.Laws as N′
+use Rattle.keys_moved_numbers.proofs.shifted_by as g
+use Rattle.keys_moved_numbers.proofs.shifted_by.Symbol as g-def
+use Rattle.keys_moved_numbers.proofs.shifted_by.Symbol.{name as #g}
+use Rattle.keys_moved_numbers.proofs.shifted_by.Met as g-thm
 use Rattle.held_key.proofs.shift_by.Key.{name as #f}
 use Rattle.held_key.proofs.shift_by as f
 use Rattle.held_key.proofs.shift_by.Statement as stated
@@ -240,6 +240,6 @@ shift-by-spec 𝓤 H 𝓜 𝓖 𝓡 =
     (tables 𝓤 H 𝓜 𝓡 code.env .C) (tables 𝓤 H 𝓜 𝓡 code.env .Λ) #f code.function (code.unfolded 𝓤 H 𝓜 𝓡)
     (meets 𝓤 H (𝓖 .A) (givenOf 𝓤 H 𝓜 𝓖) (𝓜 .mem) (𝓡 .run) (tablesOf 𝓤 H 𝓜 (tables 𝓤 H 𝓜 𝓡 code.env))
     (cited 𝓤 H (G 𝓤 H (𝓖 .A) (𝓜 .mem) (𝓡 .run)) 𝓜 𝓡 code.env #g
-    g-def.routine code.calls-held-key·plain·shifted-by (g-thm.met 𝓤 H 𝓜 𝓖 𝓡))
+    g-def.routine code.calls-keys-moved-numbers·shifted-by (g-thm.met 𝓤 H 𝓜 𝓖 𝓡))
     (cited 𝓤 H (Hold 𝓤 H (𝓖 .A) (𝓜 .mem) (𝓡 .run)) 𝓜 𝓡 code.env #hold
-    hold-def.routine code.calls-held-key·hold (hold-thm.met 𝓤 H 𝓜 𝓖 𝓡)))
+    hold-def.routine code.calls-keys-held·hold (hold-thm.met 𝓤 H 𝓜 𝓖 𝓡)))

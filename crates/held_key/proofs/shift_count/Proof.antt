@@ -1,12 +1,12 @@
--- `held_key::shift_count` meets its contract: the walk of `Asking.antt`, at `key::shift_count`. Assumes nothing.
+-- `held_key::shift_count` meets its contract: the walk of `Asking.antt` (crate `keys_held_bytes`), at `key::shift_count`. Assumes nothing.
 use contract.Running.{givenOf, tables, tablesOf}
 use denote.Triple.Spec.{tripleOf}
 use denote.Triple.Table.{entered, cited}
 use Rattle.key_questions.proofs.shift_count.Symbol as g-def
 use Rattle.key_questions.proofs.shift_count.Symbol.{name as #g}
 use Rattle.key_questions.proofs.shift_count.Met as g-thm
-use Rattle.held_key.proofs.Asking.{Asks, asks}
-use Rattle.held_key.proofs.Answers.{count, SaysCount}
+use Rattle.keys_held_bytes.proofs.Asking.{Asks, asks}
+use Rattle.keys_held_bytes.proofs.Answers.{count, SaysCount}
 use Rattle.held_key.proofs.shift_count.Key.{name as #f}
 use Rattle.held_key.proofs.shift_count as f
 use Rattle.held_key.proofs.shift_count.Statement as stated

@@ -5,9 +5,9 @@ use denote.Triple.Table.{entered, cited}
 use Rattle.key_layer.specs.Keys.{numbersAt, asked}
 use Rattle.held_key.proofs.Moves.{Asks, moves}
 use Rattle.held_key.proofs.Holding.{Hold}
-use Rattle.held_key.proofs.hold.Symbol as hold-def
-use Rattle.held_key.proofs.hold.Symbol.{name as #hold}
-use Rattle.held_key.proofs.hold.Met as hold-thm
+use Rattle.keys_held.proofs.hold.Symbol as hold-def
+use Rattle.keys_held.proofs.hold.Symbol.{name as #hold}
+use Rattle.keys_held.proofs.hold.Met as hold-thm
 use Rattle.held_key.proofs.plain.unshifted_all.Symbol as g-def
 use Rattle.held_key.proofs.plain.unshifted_all.Symbol.{name as #g}
 use Rattle.held_key.proofs.plain.unshifted_all.Met as g-thm
@@ -26,4 +26,4 @@ unshift-all-spec 𝓤 H 𝓜 𝓖 𝓡 =
     (cited 𝓤 H (Asks (λ s i c a. asked s i c a (numbersAt s 0)) 𝓤 H (𝓖 .A)) 𝓜 𝓡 code.env #g
     g-def.routine code.calls-held-key·plain·unshifted-all (g-thm.met 𝓤 H 𝓜 𝓖 𝓡))
     (cited 𝓤 H (Hold 𝓤 H (𝓖 .A) (𝓜 .mem) (𝓡 .run)) 𝓜 𝓡 code.env #hold
-    hold-def.routine code.calls-held-key·hold (hold-thm.met 𝓤 H 𝓜 𝓖 𝓡)))
+    hold-def.routine code.calls-keys-held·hold (hold-thm.met 𝓤 H 𝓜 𝓖 𝓡)))

@@ -1,7 +1,7 @@
 -- `key_moves::unshift` meets its contract. Assumes nothing.
 use borrow.Author.Needs.{needs}
 use Rattle.key_layer.proofs.Fitting.{withins}
-use Rattle.key_layer.proofs.Calls.{moving}
+use Rattle.key_layer.proofs.Calls.{moved-later, moved-first, moved-unfit}
 use Rattle.key_moves.proofs.unshift.Statement.{statement}
 use Rattle.key_moves.proofs.unshift.Tie as tie
 
@@ -12,8 +12,8 @@ unshift-spec =
     (λ c κs. search needs)
     (λ c. search needs)
     (λ c κs. search withins)
-    (λ c. search moving)
+    (λ c. search moved-later)
     (λ c κs. search needs)
-    (λ c. search moving)
+    (λ c. search moved-first)
     (λ c κs. search needs)
-    (λ c. search moving))
+    (λ c. search moved-unfit))

@@ -1,6 +1,6 @@
 -- `insert_from_back` meets its contract. Assumes nothing.
 use borrow.Author.Needs.{needs}
-use Rattle.slot_answers.proofs.Calls.{asks, calls}
+use Rattle.slot_answers.proofs.Calls.{inserts}
 use Rattle.permuter.proofs.insert_from_back.Statement.{statement}
 use Rattle.permuter.proofs.insert_from_back.Tie as tie
 
@@ -9,12 +9,13 @@ insert-from-back-spec =
     tie.close
     (tie.spec
     (λ c κs. search needs)
-    (λ c. search needs)
-    (λ c. search calls)
-    (λ c. search needs)
     (λ c κs. search needs)
-    (λ c. search calls)
-    (λ c. search calls)
-    (λ c κs. search asks)
-    (λ c κs. search asks)
-    (λ c. search calls))
+    (λ c. search inserts)
+    (λ c κs. search needs)
+    (λ c. search inserts)
+    (λ c. search inserts)
+    (λ c κs. search needs)
+    (λ c. search inserts)
+    (λ c κs. search inserts)
+    (λ c κs. search needs)
+    (λ c. search inserts))

@@ -1,11 +1,8 @@
 -- `held_key::plain::made` meets its contract. Assumes nothing.
 use borrow.Author.Needs.{needs}
-use Rattle.held_key.proofs.Laws.{numbers-then}
+use Rattle.keys_moved_numbers.proofs.Laws.{numbers-then}
 use Rattle.held_key.proofs.plain.made.Statement.{statement}
 use Rattle.held_key.proofs.plain.made.Tie as tie
 
-returns : tie.Need-returns
-returns c = search numbers-then
-
 pub made-spec : {M : Type 1} → statement M
-made-spec = tie.close (tie.spec (λ c κs. search needs) (λ c κs. search needs) returns)
+made-spec = tie.close (tie.spec (λ c κs. search needs) (λ c κs. search needs) (λ c. search numbers-then))

@@ -4,11 +4,13 @@ use Rattle.key_layer.proofs.Fitting.{fittings}
 use Rattle.key_layer.proofs.inside.layer.Statement.{statement}
 use Rattle.key_layer.proofs.inside.layer.Tie as tie
 
-returns : tie.Need-returns
-returns c = search fittings
-
-returns-2 : tie.Need-returns-2
-returns-2 c = search fittings
-
 pub layer-spec : {M : Type 1} → statement M
-layer-spec = tie.close (tie.spec (λ c. search needs) (λ c κs. search needs) (λ c. search needs) returns (λ c. search needs) returns-2)
+layer-spec =
+    tie.close
+    (tie.spec
+    (λ c. search needs)
+    (λ c κs. search needs)
+    (λ c. search needs)
+    (λ c. search fittings)
+    (λ c. search needs)
+    (λ c. search fittings))

@@ -47,12 +47,12 @@ use Rattle.key_layer.specs.Said.{saidCompared}
 use Rattle.key_layer.specs.declared.Compared.{Compared}
 use Rattle.key_layer.proofs.Compared as D
 use Rattle.key_layer.proofs.Compared.Laws as D′
-use Rattle.held_key.proofs.Key as T
-use Rattle.held_key.proofs.Key.Laws as T′
-use Rattle.held_key.proofs.compare as g
-use Rattle.held_key.proofs.compare.Symbol as g-def
-use Rattle.held_key.proofs.compare.Symbol.{name as #g}
-use Rattle.held_key.proofs.compare.Met as g-thm
+use Rattle.keys_held.proofs.Key as T
+use Rattle.keys_held.proofs.Key.Laws as T′
+use Rattle.keys_held_compares.proofs.compare as g
+use Rattle.keys_held_compares.proofs.compare.Symbol as g-def
+use Rattle.keys_held_compares.proofs.compare.Symbol.{name as #g}
+use Rattle.keys_held_compares.proofs.compare.Met as g-thm
 use Rattle.replay_key.proofs.Making.{keyOf, key-typed}
 use Rattle.replay_key.proofs.held.compare.Key.{name as #f}
 use Rattle.replay_key.proofs.held.compare as f
@@ -227,4 +227,4 @@ compare-spec 𝓤 H 𝓜 𝓖 𝓡 =
     entered 𝓤 H (tripleOf 𝓤 H (𝓖 .A) f.signature (f.spec 𝓤 H (𝓖 .A) (𝓜 .mem) (𝓡 .run)))
     (tables 𝓤 H 𝓜 𝓡 code.env .C) (tables 𝓤 H 𝓜 𝓡 code.env .Λ) #f code.function (code.unfolded 𝓤 H 𝓜 𝓡)
     (meets 𝓤 H (𝓖 .A) (givenOf 𝓤 H 𝓜 𝓖) (𝓜 .mem) (𝓡 .run) (tablesOf 𝓤 H 𝓜 (tables 𝓤 H 𝓜 𝓡 code.env))
-    (cited 𝓤 H (G 𝓤 H (𝓖 .A) (𝓜 .mem) (𝓡 .run)) 𝓜 𝓡 code.env #g g-def.routine code.calls-held-key·compare (g-thm.met 𝓤 H 𝓜 𝓖 𝓡)))
+    (cited 𝓤 H (G 𝓤 H (𝓖 .A) (𝓜 .mem) (𝓡 .run)) 𝓜 𝓡 code.env #g g-def.routine code.calls-keys-held-compares·compare (g-thm.met 𝓤 H 𝓜 𝓖 𝓡)))

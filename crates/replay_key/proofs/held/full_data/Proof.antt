@@ -3,9 +3,9 @@ use contract.Running.{givenOf, tables, tablesOf}
 use denote.Triple.Spec.{tripleOf}
 use denote.Triple.Table.{entered, cited}
 use Rattle.key.specs.Parts.{dataSaid}
-use Rattle.held_key.proofs.full_data.Symbol as n-def
-use Rattle.held_key.proofs.full_data.Symbol.{name as #n}
-use Rattle.held_key.proofs.full_data.Met as n-thm
+use Rattle.keys_held_bytes.proofs.full_data.Symbol as n-def
+use Rattle.keys_held_bytes.proofs.full_data.Symbol.{name as #n}
+use Rattle.keys_held_bytes.proofs.full_data.Met as n-thm
 use Rattle.replay_key.proofs.Handed.{bytes, parted, Data, BytesOf, SaysBytes, data-bytes}
 use Rattle.replay_key.proofs.Passes.{Asks, Takes, passes}
 use Rattle.replay_key.proofs.held.bytes_of.Symbol as g-def
@@ -24,6 +24,6 @@ full-data-spec 𝓤 H 𝓜 𝓖 𝓡 =
     (passes bytes parted Data BytesOf (SaysBytes dataSaid) data-bytes 𝓤 H (𝓖 .A) (givenOf 𝓤 H 𝓜 𝓖)
     (tablesOf 𝓤 H 𝓜 (tables 𝓤 H 𝓜 𝓡 code.env)) #n #g
     (cited 𝓤 H (Asks bytes parted Data BytesOf (SaysBytes dataSaid) data-bytes 𝓤 H (𝓖 .A)) 𝓜 𝓡 code.env #n
-    n-def.routine code.calls-held-key·full-data (n-thm.met 𝓤 H 𝓜 𝓖 𝓡))
+    n-def.routine code.calls-keys-held-bytes·full-data (n-thm.met 𝓤 H 𝓜 𝓖 𝓡))
     (cited 𝓤 H (Takes bytes parted Data BytesOf (SaysBytes dataSaid) data-bytes 𝓤 H (𝓖 .A)) 𝓜 𝓡 code.env #g
     g-def.routine code.calls-replay-key·held·bytes-of (g-thm.met 𝓤 H 𝓜 𝓖 𝓡)))

@@ -3,7 +3,7 @@ use contract.Running.{givenOf, tables, tablesOf}
 use denote.Triple.Spec.{tripleOf}
 use denote.Triple.Table.{entered, cited}
 use Rattle.key_layer.specs.Keys.{hasSuffix}
-use Rattle.held_key.proofs.Answers.{told, SaysTold}
+use Rattle.keys_held_bytes.proofs.Answers.{told, SaysTold}
 use Rattle.held_key.proofs.has_suffix.Symbol as g-def
 use Rattle.held_key.proofs.has_suffix.Symbol.{name as #g}
 use Rattle.held_key.proofs.has_suffix.Met as g-thm

@@ -2,7 +2,7 @@
 use contract.Running.{givenOf, tables, tablesOf}
 use denote.Triple.Spec.{tripleOf}
 use denote.Triple.Table.{entered, cited}
-use Rattle.held_key.proofs.Answers.{word, SaysWord}
+use Rattle.keys_held_bytes.proofs.Answers.{word, SaysWord}
 use Rattle.held_key.proofs.ikey.Symbol as g-def
 use Rattle.held_key.proofs.ikey.Symbol.{name as #g}
 use Rattle.held_key.proofs.ikey.Met as g-thm

@@ -4,7 +4,7 @@ use lib.ListN.{length}
 use contract.Running.{givenOf, tables, tablesOf}
 use denote.Triple.Spec.{tripleOf}
 use denote.Triple.Table.{entered, cited}
-use Rattle.held_key.proofs.Answers.{told, SaysTold}
+use Rattle.keys_held_bytes.proofs.Answers.{told, SaysTold}
 use Rattle.held_key.proofs.is_empty.Symbol as g-def
 use Rattle.held_key.proofs.is_empty.Symbol.{name as #g}
 use Rattle.held_key.proofs.is_empty.Met as g-thm

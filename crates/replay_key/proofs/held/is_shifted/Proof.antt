@@ -3,7 +3,7 @@ use lib.Dec.{ltb}
 use contract.Running.{givenOf, tables, tablesOf}
 use denote.Triple.Spec.{tripleOf}
 use denote.Triple.Table.{entered, cited}
-use Rattle.held_key.proofs.Answers.{told, SaysTold}
+use Rattle.keys_held_bytes.proofs.Answers.{told, SaysTold}
 use Rattle.held_key.proofs.is_shifted.Symbol as g-def
 use Rattle.held_key.proofs.is_shifted.Symbol.{name as #g}
 use Rattle.held_key.proofs.is_shifted.Met as g-thm

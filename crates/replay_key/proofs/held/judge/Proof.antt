@@ -2,7 +2,7 @@
 use contract.Running.{givenOf, tables, tablesOf}
 use denote.Triple.Spec.{tripleOf}
 use denote.Triple.Table.{entered, cited}
-use Rattle.held_key.proofs.Answers.{judged, SaysJudged}
+use Rattle.keys_held_bytes.proofs.Answers.{judged, SaysJudged}
 use Rattle.held_key.proofs.judge.Symbol as g-def
 use Rattle.held_key.proofs.judge.Symbol.{name as #g}
 use Rattle.held_key.proofs.judge.Met as g-thm

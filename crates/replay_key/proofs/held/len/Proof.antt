@@ -3,10 +3,10 @@ use lib.ListN.{length}
 use contract.Running.{givenOf, tables, tablesOf}
 use denote.Triple.Spec.{tripleOf}
 use denote.Triple.Table.{entered, cited}
-use Rattle.held_key.proofs.Answers.{count, SaysCount}
-use Rattle.held_key.proofs.len.Symbol as g-def
-use Rattle.held_key.proofs.len.Symbol.{name as #g}
-use Rattle.held_key.proofs.len.Met as g-thm
+use Rattle.keys_held_bytes.proofs.Answers.{count, SaysCount}
+use Rattle.keys_held_bytes.proofs.len.Symbol as g-def
+use Rattle.keys_held_bytes.proofs.len.Symbol.{name as #g}
+use Rattle.keys_held_bytes.proofs.len.Met as g-thm
 use Rattle.replay_key.proofs.Fronts.{Asks, fronts}
 use Rattle.replay_key.proofs.held.len.Key.{name as #f}
 use Rattle.replay_key.proofs.held.len as f
@@ -21,4 +21,4 @@ len-spec 𝓤 H 𝓜 𝓖 𝓡 =
     (fronts count (SaysCount (λ s i c a. length s)) 𝓤 H (𝓖 .A) (givenOf 𝓤 H 𝓜 𝓖)
     (tablesOf 𝓤 H 𝓜 (tables 𝓤 H 𝓜 𝓡 code.env)) #g
     (cited 𝓤 H (Asks count (SaysCount (λ s i c a. length s)) 𝓤 H (𝓖 .A)) 𝓜 𝓡 code.env #g
-    g-def.routine code.calls-held-key·len (g-thm.met 𝓤 H 𝓜 𝓖 𝓡)))
+    g-def.routine code.calls-keys-held-bytes·len (g-thm.met 𝓤 H 𝓜 𝓖 𝓡)))

@@ -37,12 +37,12 @@ use denote.Triple.Spec.{Meets, tripleOf}
 use denote.Triple.Table.{entered}
 use denote.Triple.Walked.{says, Stays, stay-none, walkOf, goes-none, Walks, ends-at, walked, walk-meets}
 use denote.Exit.{yes}
-use Rattle.held_key.specs.declared.Keyed.{Keyed}
+use Rattle.keys_held.specs.declared.Keyed.{Keyed}
 use Rattle.held_key.specs.Held.{numbersHeld}
-use Rattle.held_key.proofs.Keyed as T
-use Rattle.held_key.proofs.Keyed.Laws as T′
-use Rattle.held_key.proofs.Numbers as N
-use Rattle.held_key.proofs.Numbers.Laws as N′
+use Rattle.keys_held.proofs.Keyed as T
+use Rattle.keys_held.proofs.Keyed.Laws as T′
+use Rattle.keys_moved_numbers.proofs.Numbers as N
+use Rattle.keys_moved_numbers.proofs.Numbers.Laws as N′
 use Rattle.replay_key.proofs.held.numbers.Key.{name as #f}
 use Rattle.replay_key.proofs.held.numbers as f
 use Rattle.replay_key.proofs.held.numbers.Statement as stated

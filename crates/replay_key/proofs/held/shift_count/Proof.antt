@@ -2,7 +2,7 @@
 use contract.Running.{givenOf, tables, tablesOf}
 use denote.Triple.Spec.{tripleOf}
 use denote.Triple.Table.{entered, cited}
-use Rattle.held_key.proofs.Answers.{count, SaysCount}
+use Rattle.keys_held_bytes.proofs.Answers.{count, SaysCount}
 use Rattle.held_key.proofs.shift_count.Symbol as g-def
 use Rattle.held_key.proofs.shift_count.Symbol.{name as #g}
 use Rattle.held_key.proofs.shift_count.Met as g-thm

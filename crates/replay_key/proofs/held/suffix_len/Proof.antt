@@ -4,7 +4,7 @@ use lib.ListN.{length}
 use contract.Running.{givenOf, tables, tablesOf}
 use denote.Triple.Spec.{tripleOf}
 use denote.Triple.Table.{entered, cited}
-use Rattle.held_key.proofs.Answers.{count, SaysCount}
+use Rattle.keys_held_bytes.proofs.Answers.{count, SaysCount}
 use Rattle.held_key.proofs.suffix_len.Symbol as g-def
 use Rattle.held_key.proofs.suffix_len.Symbol.{name as #g}
 use Rattle.held_key.proofs.suffix_len.Met as g-thm

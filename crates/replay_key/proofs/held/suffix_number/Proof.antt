@@ -3,9 +3,9 @@ use contract.Running.{givenOf, tables, tablesOf}
 use denote.Triple.Spec.{tripleOf}
 use denote.Triple.Table.{entered, cited}
 use Rattle.key.specs.Parts.{suffixSaid}
-use Rattle.held_key.proofs.suffix.Symbol as n-def
-use Rattle.held_key.proofs.suffix.Symbol.{name as #n}
-use Rattle.held_key.proofs.suffix.Met as n-thm
+use Rattle.keys_held_bytes.proofs.suffix.Symbol as n-def
+use Rattle.keys_held_bytes.proofs.suffix.Symbol.{name as #n}
+use Rattle.keys_held_bytes.proofs.suffix.Met as n-thm
 use Rattle.replay_key.proofs.Handed.{number, parted, Suffix, NumberOf, SaysNumber, suffix-number}
 use Rattle.replay_key.proofs.Passes.{Asks, Takes, passes}
 use Rattle.replay_key.proofs.held.number.Symbol as g-def
@@ -24,6 +24,6 @@ suffix-number-spec 𝓤 H 𝓜 𝓖 𝓡 =
     (passes number parted Suffix NumberOf (SaysNumber suffixSaid) suffix-number 𝓤 H (𝓖 .A) (givenOf 𝓤 H 𝓜 𝓖)
     (tablesOf 𝓤 H 𝓜 (tables 𝓤 H 𝓜 𝓡 code.env)) #n #g
     (cited 𝓤 H (Asks number parted Suffix NumberOf (SaysNumber suffixSaid) suffix-number 𝓤 H (𝓖 .A)) 𝓜 𝓡 code.env #n
-    n-def.routine code.calls-held-key·suffix (n-thm.met 𝓤 H 𝓜 𝓖 𝓡))
+    n-def.routine code.calls-keys-held-bytes·suffix (n-thm.met 𝓤 H 𝓜 𝓖 𝓡))
     (cited 𝓤 H (Takes number parted Suffix NumberOf (SaysNumber suffixSaid) suffix-number 𝓤 H (𝓖 .A)) 𝓜 𝓡 code.env #g
     g-def.routine code.calls-replay-key·held·number (g-thm.met 𝓤 H 𝓜 𝓖 𝓡)))

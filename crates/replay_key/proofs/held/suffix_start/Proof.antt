@@ -2,10 +2,10 @@
 use contract.Running.{givenOf, tables, tablesOf}
 use denote.Triple.Spec.{tripleOf}
 use denote.Triple.Table.{entered, cited}
-use Rattle.held_key.proofs.Answers.{count, SaysCount}
-use Rattle.held_key.proofs.suffix_start.Symbol as g-def
-use Rattle.held_key.proofs.suffix_start.Symbol.{name as #g}
-use Rattle.held_key.proofs.suffix_start.Met as g-thm
+use Rattle.keys_held_bytes.proofs.Answers.{count, SaysCount}
+use Rattle.keys_held_bytes.proofs.suffix_start.Symbol as g-def
+use Rattle.keys_held_bytes.proofs.suffix_start.Symbol.{name as #g}
+use Rattle.keys_held_bytes.proofs.suffix_start.Met as g-thm
 use Rattle.replay_key.proofs.Fronts.{Asks, fronts}
 use Rattle.replay_key.proofs.held.suffix_start.Key.{name as #f}
 use Rattle.replay_key.proofs.held.suffix_start as f
@@ -20,4 +20,4 @@ suffix-start-spec 𝓤 H 𝓜 𝓖 𝓡 =
     (fronts count (SaysCount (λ s i c a. a)) 𝓤 H (𝓖 .A) (givenOf 𝓤 H 𝓜 𝓖)
     (tablesOf 𝓤 H 𝓜 (tables 𝓤 H 𝓜 𝓡 code.env)) #g
     (cited 𝓤 H (Asks count (SaysCount (λ s i c a. a)) 𝓤 H (𝓖 .A)) 𝓜 𝓡 code.env #g
-    g-def.routine code.calls-held-key·suffix-start (g-thm.met 𝓤 H 𝓜 𝓖 𝓡)))
+    g-def.routine code.calls-keys-held-bytes·suffix-start (g-thm.met 𝓤 H 𝓜 𝓖 𝓡)))

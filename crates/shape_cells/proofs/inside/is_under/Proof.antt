@@ -20,9 +20,9 @@ loop-holds c = (search needs, refl)
 loop-again : tie.Need-loop-again Inv-loop μ-loop
 loop-again c =
     let t = c .before .before .before .before in
-    let s = t .before .before .before .before in
-    let r = c .before .before .before .read-ikey in
-    (search needs, under-next _ _ _ (s .pre .0) (t .before .loop .inv .1) (t .loop-test .taken) (r .ensures) (c .before .if1 .left) (c .if2 .left))
+    let l = t .before .before in
+    let s = l .before .before .before .before in
+    (search needs, under-next _ _ _ (s .pre .0) (t .before .loop .inv .1) (t .loop-test .taken) (c .before .before .eight .ensures) (c .if3 .left) (l .if2 .left))
 
 pub is-under-spec : {M : Type 1} → statement M
 is-under-spec =
@@ -30,12 +30,15 @@ is-under-spec =
     (tie.spec
     Inv-loop
     μ-loop
-    loop-holds
-    (λ c. search needs)
-    (λ c κs. search needs)
-    (λ c. search needs)
+    (λ c. search unders)
     (λ c. search needs)
     (λ c. search unders)
+    loop-holds
+    (λ c. search needs)
+    (λ c. search needs)
+    (λ c. search needs)
+    (λ c. search needs)
+    (λ c κs. search needs)
     (λ c. search needs)
     (λ c. search needs)
     (λ c. search unders)

@@ -2,16 +2,16 @@
 -- within a layer the height that is left. Assumes nothing.
 use borrow.Author.Needs.{needs}
 use Prim.Native.Nat.{ℕ, _+_, _-_, _*_, _≤_, _<_}
-use mathlib.Core.Path.{_≡_}
+use mathlib.Core.Path.{_≡_, _∙_}
 use mathlib.Core.List.{map}
-use lib.ListN.{length, drop}
+use lib.ListN.{length, take, drop}
 use Rattle.arena.specs.Memory.{memory}
 use Rattle.forest.specs.Nodes.{entriesAt, ikeysAt, childrenAt}
 use Rattle.forest.specs.Trees.{seenAs}
 use Rattle.forest.specs.Walk.{each, walkEntry, walkSpan, spans, walkNode, walkLeaf, walkInternode}
 use Rattle.edge.specs.Edges.{leftOf, rightOf}
 use Rattle.walk.specs.Steps.{refsAt}
-use Rattle.walk.proofs.Steps.{entrywise, leafwise, interwise, nodewise, layerwise, leaf-out, leaf-fails, inter-out, inter-fails, inter-next, height-few}
+use Rattle.walk.proofs.Steps.{entrywise, leafwise, interwise, nodewise, layerwise, leaf-out, leaf-fails, leaf-next, entries-on, inter-out, inter-fails, inter-next, spans-on, height-few}
 use native.Mathlib.Omega.{arith}
 use borrow.Author.Tests.{not-true, not-false}
 use borrow.Fn.Kinds.{In}
@@ -31,7 +31,6 @@ use Rattle.walk.proofs.inside.+walk_entry+walk_internode+walk_layer+wal
 use Rattle.walk.proofs.inside.walk_node.Reads as walk-node
 use Rattle.walk.proofs.inside.walk_node.Kinds as walk-node-kinds
 use Rattle.walk.proofs.inside.+walk_entry+walk_internode+walk_layer+walk_leaf+walk_node.Lts-walk_node as walk-node-lts
-use Rattle.arena.proofs.inside.copy_words.Reads as copy-words-reads
 use Rattle.arena.proofs.inside.put1.Reads as put1-reads
 use Rattle.edge.proofs.inside.is_between.Reads as is-between-reads
 use Rattle.edge.proofs.inside.is_within.Reads as is-within-reads
@@ -40,7 +39,7 @@ use Rattle.shape.proofs.inside.height.Reads as height-reads
 use Rattle.shape.proofs.inside.internode_right.Reads as internode-right-reads
 use Rattle.shape.proofs.inside.leaf_right.Reads as leaf-right-reads
 use Rattle.walk.proofs.inside.right_edge.Reads as right-edge-reads
-use Rattle.walk.proofs.inside.see_number.Reads as see-number-reads
+use Rattle.audit_seen.proofs.inside.see_number.Reads as see-number-reads
 use Rattle.walk.proofs.inside.walk_cell.Reads as walk-cell-reads
 use Rattle.leaf.proofs.inside.size_of.Reads as size-of-reads
 use Rattle.leaf.proofs.inside.slot_at.Reads as slot-at-reads
@@ -113,7 +112,7 @@ walk-node-below t =
     and 5 walk-node-kinds.ps (falls 5 walk-node-kinds.ps _<_ μ-walk-node t) walk-node.Pre
 
 abbrev walk-entry-calls : ℕ → walk-entry-lts.Claims
-walk-entry-calls t = (walk-cell-reads.Asked, walk-cell-reads.Learnt, copy-words-reads.Asked, copy-words-reads.Learnt, put1-reads.Asked, put1-reads.Learnt, walk-layer-below t, walk-layer.Post)
+walk-entry-calls t = (walk-cell-reads.Asked, walk-cell-reads.Learnt, put1-reads.Asked, put1-reads.Learnt, walk-layer-below t, walk-layer.Post)
 
 abbrev walk-internode-calls : ℕ → walk-internode-lts.Claims
 walk-internode-calls t = (internode-right-reads.Asked, internode-right-reads.Learnt, right-edge-reads.Asked, right-edge-reads.Learnt, is-between-reads.Asked, is-between-reads.Learnt, walk-node-below t, walk-node.Post)
@@ -137,13 +136,14 @@ walk-entry-returns-3 : (t : ℕ) → walk-entry-lts.Need-returns-3 (walk-entry-c
 walk-entry-returns-3 t c = search entrywise
 
 abbrev walk-internode-Inv-loop : walk-internode-lts.InvT-loop
-walk-internode-Inv-loop nodes cells bytes seen₀ above links h high k at n left₀ i₀ seen left i =
+walk-internode-Inv-loop nodes cells bytes seen₀ above₀ links h high k at n left₀ i₀ seen above left i =
     (i ≤ n + 1) × (n ≤ 15) × (length seen ≡ length seen₀)
     × (each (walkSpan (walkNode (refsAt (memory nodes cells bytes) above links) nodes h)) (spans (leftOf left) (rightOf high) (drop i (ikeysAt nodes k)) (drop i (childrenAt nodes k))) seen
-    ≡ walkInternode (walkNode (refsAt (memory nodes cells bytes) above links) nodes h) nodes (leftOf left₀) (rightOf high) k seen₀)
+    ≡ walkInternode (walkNode (refsAt (memory nodes cells bytes) above₀ links) nodes h) nodes (leftOf left₀) (rightOf high) k seen₀)
+    × (length above ≡ length above₀) × (take links above ≡ take links above₀)
 
 abbrev walk-internode-μ-loop : walk-internode-lts.MeasureT-loop
-walk-internode-μ-loop nodes cells bytes seen₀ above links h high k at n left₀ i₀ seen left i = n + 1 - i
+walk-internode-μ-loop nodes cells bytes seen₀ above₀ links h high k at n left₀ i₀ seen above left i = n + 1 - i
 
 walk-internode-returns : (t : ℕ) → walk-internode-lts.Need-returns (walk-internode-calls t) (walk-internode-at t) walk-internode.Post walk-internode-Inv-loop walk-internode-μ-loop
 walk-internode-returns t c = search interwise
@@ -153,43 +153,53 @@ walk-internode-loop-holds t c = search interwise
 
 walk-internode-returns-2 : (t : ℕ) → walk-internode-lts.Need-returns-2 (walk-internode-calls t) (walk-internode-at t) walk-internode.Post walk-internode-Inv-loop walk-internode-μ-loop
 walk-internode-returns-2 t c =
-    let d = c .before in
-    inter-out _ _ _ _ _ _ _ (d .before .before .before .loop .inv .3) (d .before .before .before .before .before .before .internode-right .ensures) (not-false _ (d .before .before .before .before .before .if1 .left)) (d .before .before .before .before .before .before .before .before .before .before .before .before .pre .1 .1)
-    (d .before .before .loop-test .taken) (d .before .right-edge .ensures) (d .is-between .ensures) (not-true _ (c .if2 .taken))
+    let d = c .before in (
+      inter-out _ _ _ _ _ _ _ (d .before .before .before .loop .inv .3) (d .before .before .before .before .before .before .internode-right .ensures) (not-false _ (d .before .before .before .before .before .if1 .left)) (d .before .before .before .before .before .before .before .before .before .before .before .before .pre .1 .1)
+          (d .before .before .loop-test .taken) (d .before .right-edge .ensures) (d .is-between .ensures) (not-true _ (c .if2 .taken)),
+      d .before .before .before .loop .inv .5,
+    )
 
 walk-internode-returns-3 : (t : ℕ) → walk-internode-lts.Need-returns-3 (walk-internode-calls t) (walk-internode-at t) walk-internode.Post walk-internode-Inv-loop walk-internode-μ-loop
 walk-internode-returns-3 t c =
-    let d = c .before .before .before .before .before .before .before in
-    inter-fails _ _ _ _ _ _ _ (d .before .before .before .loop .inv .3) (d .before .before .before .before .before .before .internode-right .ensures) (not-false _ (d .before .before .before .before .before .if1 .left)) (d .before .before .before .before .before .before .before .before .before .before .before .before .pre .1 .1)
-    (d .before .before .loop-test .taken) (d .before .right-edge .ensures) (d .is-between .ensures) (not-false _ (c .before .before .before .before .before .before .if2 .left)) _ (c .before .before .before .walk-node .ensures) (not-true _ (c .if3 .taken))
+    let w = c .before .before .before .before .before in
+    let d = w .before .before .before .before .before in (
+      inter-fails _ _ _ _ _ _ _ (d .before .before .before .loop .inv .3) (d .before .before .before .before .before .before .internode-right .ensures) (not-false _ (d .before .before .before .before .before .if1 .left)) (d .before .before .before .before .before .before .before .before .before .before .before .before .pre .1 .1)
+          (d .before .before .loop-test .taken) (d .before .right-edge .ensures) (d .is-between .ensures) (not-false _ (w .before .before .before .before .if2 .left)) _ (w .walk-node .ensures .0) (not-true _ (c .if3 .taken)),
+      w .walk-node .ensures .1 ∙ d .before .before .before .loop .inv .5,
+    )
 
 walk-internode-loop-again : (t : ℕ) → walk-internode-lts.Need-loop-again (walk-internode-calls t) (walk-internode-at t) walk-internode.Post walk-internode-Inv-loop walk-internode-μ-loop
 walk-internode-loop-again t c =
-    let d = c .before .before .before .before .before .before .before in (
+    let w = c .before .before .before .before .before in
+    let d = w .before .before .before .before .before in (
       search needs,
       search needs,
       search needs,
-      inter-next _ _ _ _ _ _ _ (d .before .before .before .loop .inv .3) (d .before .before .before .before .before .before .internode-right .ensures) (not-false _ (d .before .before .before .before .before .if1 .left)) (d .before .before .before .before .before .before .before .before .before .before .before .before .pre .1 .1)
-          (d .before .before .loop-test .taken) (d .before .right-edge .ensures) (d .is-between .ensures) (not-false _ (c .before .before .before .before .before .before .if2 .left)) _ (c .before .before .before .walk-node .ensures) (not-false _ (c .if3 .left)),
+      spans-on _ _ _ _ (w .walk-node .ensures .1) _ _ _ _
+          (inter-next _ _ _ _ _ _ _ (d .before .before .before .loop .inv .3) (d .before .before .before .before .before .before .internode-right .ensures) (not-false _ (d .before .before .before .before .before .if1 .left)) (d .before .before .before .before .before .before .before .before .before .before .before .before .pre .1 .1)
+          (d .before .before .loop-test .taken) (d .before .right-edge .ensures) (d .is-between .ensures) (not-false _ (w .before .before .before .before .if2 .left)) _ (w .walk-node .ensures .0) (not-false _ (c .if3 .left))),
+      search needs,
+      w .walk-node .ensures .1 ∙ d .before .before .before .loop .inv .5,
     )
 
 walk-internode-returns-4 : (t : ℕ) → walk-internode-lts.Need-returns-4 (walk-internode-calls t) (walk-internode-at t) walk-internode.Post walk-internode-Inv-loop walk-internode-μ-loop
 walk-internode-returns-4 t c = search interwise
 
 walk-layer-walk-node-requires : (t : ℕ) → walk-layer-lts.Need-walk-node-requires (walk-layer-calls t) (walk-layer-at t) walk-layer.Post
-walk-layer-walk-node-requires t c κs = (omega (arith, height-few _ _ (c .before .height .ensures)), search needs)
+walk-layer-walk-node-requires t c κs = (omega (arith, height-few _ _ (c .before .before .height .ensures)), search needs)
 
 walk-layer-returns : (t : ℕ) → walk-layer-lts.Need-returns (walk-layer-calls t) (walk-layer-at t) walk-layer.Post
 walk-layer-returns t c = search layerwise
 
 abbrev walk-leaf-Inv-loop : walk-leaf-lts.InvT-loop
-walk-leaf-Inv-loop nodes cells bytes seen₀ above links low high k word size i₀ seen i =
+walk-leaf-Inv-loop nodes cells bytes seen₀ above₀ links low high k word size i₀ seen above i =
     (i ≤ size) × (length seen ≡ length seen₀)
     × (each (walkEntry (refsAt (memory nodes cells bytes) above links) (leftOf low) (rightOf high)) (drop i (map seenAs (entriesAt nodes k))) seen
-    ≡ walkLeaf (refsAt (memory nodes cells bytes) above links) nodes (leftOf low) (rightOf high) k seen₀)
+    ≡ walkLeaf (refsAt (memory nodes cells bytes) above₀ links) nodes (leftOf low) (rightOf high) k seen₀)
+    × (length above ≡ length above₀) × (take links above ≡ take links above₀)
 
 abbrev walk-leaf-μ-loop : walk-leaf-lts.MeasureT-loop
-walk-leaf-μ-loop nodes cells bytes seen₀ above links low high k word size i₀ seen i = size - i
+walk-leaf-μ-loop nodes cells bytes seen₀ above₀ links low high k word size i₀ seen above i = size - i
 
 walk-leaf-returns : (t : ℕ) → walk-leaf-lts.Need-returns (walk-leaf-calls t) (walk-leaf-at t) walk-leaf.Post walk-leaf-Inv-loop walk-leaf-μ-loop
 walk-leaf-returns t c = search leafwise
@@ -202,18 +212,33 @@ walk-leaf-slot-at-requires t c κs = search leafwise
 
 walk-leaf-returns-2 : (t : ℕ) → walk-leaf-lts.Need-returns-2 (walk-leaf-calls t) (walk-leaf-at t) walk-leaf.Post walk-leaf-Inv-loop walk-leaf-μ-loop
 walk-leaf-returns-2 t c =
-    let d = c .before in
-    leaf-out _ _ _ _ _ _ _ (d .before .before .before .before .loop .inv .2) (d .before .before .before .before .before .size-of .ensures) (d .before .before .before .loop-test .taken) (d .before .before .slot-at .ensures .0)
-    (d .before .entry-at .ensures) (d .is-within .ensures) (not-true _ (c .if2 .taken))
+    let d = c .before in (
+      leaf-out _ _ _ _ _ _ _ (d .before .before .before .before .loop .inv .2) (d .before .before .before .before .before .size-of .ensures) (d .before .before .before .loop-test .taken) (d .before .before .slot-at .ensures .0)
+          (d .before .entry-at .ensures) (d .is-within .ensures) (not-true _ (c .if2 .taken)),
+      d .before .before .before .before .loop .inv .4,
+    )
 
 walk-leaf-returns-3 : (t : ℕ) → walk-leaf-lts.Need-returns-3 (walk-leaf-calls t) (walk-leaf-at t) walk-leaf.Post walk-leaf-Inv-loop walk-leaf-μ-loop
 walk-leaf-returns-3 t c =
-    let d = c .before .before .before .before .before .before in
-    leaf-fails _ _ _ _ _ _ _ (d .before .before .before .before .loop .inv .2) (d .before .before .before .before .before .size-of .ensures) (d .before .before .before .loop-test .taken) (d .before .before .slot-at .ensures .0)
-    (d .before .entry-at .ensures) (d .is-within .ensures) (not-false _ (c .before .before .before .before .before .if2 .left)) _ (c .before .before .before .walk-entry .ensures) (not-true _ (c .if3 .taken))
+    let w = c .before .before .before .before .before in
+    let d = w .before .before .before .before in (
+      leaf-fails _ _ _ _ _ _ _ (d .before .before .before .before .loop .inv .2) (d .before .before .before .before .before .size-of .ensures) (d .before .before .before .loop-test .taken) (d .before .before .slot-at .ensures .0)
+          (d .before .entry-at .ensures) (d .is-within .ensures) (not-false _ (w .before .before .before .if2 .left)) _ (w .walk-entry .ensures .0) (not-true _ (c .if3 .taken)),
+      w .walk-entry .ensures .1 ∙ d .before .before .before .before .loop .inv .4,
+    )
 
 walk-leaf-loop-again : (t : ℕ) → walk-leaf-lts.Need-loop-again (walk-leaf-calls t) (walk-leaf-at t) walk-leaf.Post walk-leaf-Inv-loop walk-leaf-μ-loop
-walk-leaf-loop-again t c = search leafwise
+walk-leaf-loop-again t c =
+    let w = c .before .before .before .before .before in
+    let d = w .before .before .before .before in (
+      search needs,
+      search needs,
+      entries-on _ _ _ _ (w .walk-entry .ensures .1) _ _ _ _
+          (leaf-next _ _ _ _ _ _ _ (d .before .before .before .before .loop .inv .2) (d .before .before .before .before .before .size-of .ensures) (d .before .before .before .loop-test .taken) (d .before .before .slot-at .ensures .0)
+          (d .before .entry-at .ensures) (d .is-within .ensures) (not-false _ (w .before .before .before .if2 .left)) _ (w .walk-entry .ensures .0) (not-false _ (c .if3 .left))),
+      search needs,
+      w .walk-entry .ensures .1 ∙ d .before .before .before .before .loop .inv .4,
+    )
 
 walk-leaf-returns-4 : (t : ℕ) → walk-leaf-lts.Need-returns-4 (walk-leaf-calls t) (walk-leaf-at t) walk-leaf.Post walk-leaf-Inv-loop walk-leaf-μ-loop
 walk-leaf-returns-4 t c = search leafwise
@@ -243,15 +268,13 @@ pub +walk-entry+walk-internode+walk-layer+walk-leaf+walk-node-spec : {M : Type 1
     walk-entry.Post
     (λ c κs. search needs)
     (λ c. search needs)
+    (λ c. search needs)
     (walk-entry-returns t)
     (walk-entry-returns-2 t)
-    (λ c. search needs)
     (λ c κs. search needs)
     (λ c. search needs)
     (λ c κs. search needs)
     (λ c. search needs)
-    (λ c. search needs)
-    (λ c κs. search needs)
     (λ c. search needs)
     (walk-entry-returns-3 t))
     (λ t. walk-internode-lts.spec (walk-internode-calls t)
@@ -272,6 +295,7 @@ pub +walk-entry+walk-internode+walk-layer+walk-leaf+walk-node-spec : {M : Type 1
     (λ c κs. search needs)
     (λ c κs. search needs)
     (λ c. search needs)
+    (λ c. search needs)
     (walk-internode-returns-2 t)
     (λ c. search needs)
     (λ c. search needs)
@@ -279,10 +303,12 @@ pub +walk-entry+walk-internode+walk-layer+walk-leaf+walk-node-spec : {M : Type 1
     (λ c. search needs)
     (λ c κs. search needs)
     (λ c. search needs)
+    (λ c. search needs)
     (walk-internode-returns-3 t)
     (λ c. search needs)
     (λ c. search needs)
     (walk-internode-loop-again t)
+    (λ c. search needs)
     (λ c. search needs)
     (walk-internode-returns-4 t))
     (λ t. walk-layer-lts.spec (walk-layer-calls t)
@@ -290,6 +316,7 @@ pub +walk-entry+walk-internode+walk-layer+walk-leaf+walk-node-spec : {M : Type 1
     walk-layer.Post
     (λ c κs. search needs)
     (walk-layer-walk-node-requires t)
+    (λ c. search needs)
     (λ c. search needs)
     (walk-layer-returns t))
     (λ t. walk-leaf-lts.spec (walk-leaf-calls t)
@@ -310,13 +337,16 @@ pub +walk-entry+walk-internode+walk-layer+walk-leaf+walk-node-spec : {M : Type 1
     (λ c κs. search needs)
     (λ c κs. search needs)
     (λ c. search needs)
+    (λ c. search needs)
     (walk-leaf-returns-2 t)
     (λ c κs. search needs)
+    (λ c. search needs)
     (λ c. search needs)
     (walk-leaf-returns-3 t)
     (λ c. search needs)
     (λ c. search needs)
     (walk-leaf-loop-again t)
+    (λ c. search needs)
     (λ c. search needs)
     (walk-leaf-returns-4 t))
     λ t. walk-node-lts.spec (walk-node-calls t)
@@ -329,8 +359,10 @@ pub +walk-entry+walk-internode+walk-layer+walk-leaf+walk-node-spec : {M : Type 1
     (walk-node-returns-2 t)
     (λ c κs. search needs)
     (λ c. search needs)
+    (λ c. search needs)
     (walk-node-returns-3 t)
     (λ c. search needs)
     (λ c κs. search needs)
+    (λ c. search needs)
     (λ c. search needs)
     (walk-node-returns-4 t)

@@ -1,6 +1,7 @@
 -- `zeros::inside::words_zero` meets its contract. Assumes nothing.
 use Prim.Native.Nat.{_-_, _≤_}
 use mathlib.Core.Path.{_≡_}
+use lib.Dec.{eqb}
 use borrow.Author.Needs.{needs}
 use Rattle.arena.specs.Parts.{part}
 use Rattle.forest.specs.Nodes.{allZero}
@@ -9,10 +10,10 @@ use Rattle.zeros.proofs.inside.words_zero.Statement.{statement}
 use Rattle.zeros.proofs.inside.words_zero.Tie as tie
 
 abbrev Inv-loop : tie.InvT-loop
-Inv-loop words at n clean₀ i₀ clean i = (i ≤ n) × (clean ≡ allZero (part words at i))
+Inv-loop words at n found₀ i₀ found i = (i ≤ n) × (eqb found 0 ≡ allZero (part words at i))
 
 abbrev μ-loop : tie.MeasureT-loop
-μ-loop words at n clean₀ i₀ clean i = n - i
+μ-loop words at n found₀ i₀ found i = n - i
 
 loop-holds : tie.Need-loop-holds Inv-loop μ-loop
 loop-holds c = (search needs, zero-first _ _)
@@ -30,7 +31,6 @@ words-zero-spec =
     (λ c. search needs)
     (λ c. search needs)
     (λ c. search needs)
-    (λ c κs. search needs)
     (λ c. search needs)
     (λ c. search needs)
     loop-again

@@ -1,0 +1,2 @@
+// An entry more in a layer of lent memory.
+pub mod inside;

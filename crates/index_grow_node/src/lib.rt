@@ -1,0 +1,2 @@
+// An entry more below a node of lent memory.
+pub mod inside;

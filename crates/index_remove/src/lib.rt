@@ -1,0 +1,42 @@
+// Remove, a change of the label index in lent memory: it judges the whole of lent memory first, and where it is refused every word and
+// byte is as it was.
+ghost use mathlib.Core.Path.{_≡_};
+ghost use Rattle.arena.specs.Memory.{memory, did};
+ghost use Rattle.model.specs.Calls.{removed};
+ghost use Rattle.index_remove.specs.Answers.{saidRemoved};
+use memory_layout::CELL_BYTES;
+use model::Met;
+use refusal::Refusal;
+
+// The most bytes that a key has.
+const LONGEST: usize = CELL_BYTES;
+
+// What a removal answers.
+pub enum Removed {
+    Done,
+    Refused(Refusal),
+}
+
+// Takes a key away: its entry goes, and its cell is free again.
+pub fn remove(nodes: &mut [u64], cells: &mut [u64], bytes: &mut [u8], key: &[u8]) -> Removed
+    ensures { λ r. ⌜ did (saidRemoved r) (memory (now (nodes .exit)) (now (cells .exit)) (now (bytes .exit)))
+        ≡ removed (memory (now (nodes .entry)) (now (cells .entry)) (now (bytes .entry))) (now (key .entry)) ⌝ }
+{
+    if LONGEST < key.len() {
+        return Removed::Refused(Refusal::Key);
+    }
+    if !audit::is_tree(nodes, cells, bytes) {
+        return Removed::Refused(Refusal::Memory);
+    }
+    let met = seek::inside::seek(nodes, cells, bytes, key, 0, 0, nodes[0]);
+    if let Met::Stored {
+        leaf,
+        position,
+        cell,
+    } = met {
+        edit::inside::take_entry(nodes, leaf as usize, position);
+        arena::inside::free_cell(cells, bytes, cell as usize);
+        return Removed::Done;
+    }
+    Removed::Refused(Refusal::Missing)
+}

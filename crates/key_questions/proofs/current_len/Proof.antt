@@ -1,8 +1,0 @@
--- `key_questions::current_len` meets its contract. Assumes nothing.
-use borrow.Author.Needs.{needs}
-use Rattle.key_layer.proofs.Calls.{asking}
-use Rattle.key_questions.proofs.current_len.Statement.{statement}
-use Rattle.key_questions.proofs.current_len.Tie as tie
-
-pub current-len-spec : {M : Type 1} → statement M
-current-len-spec = tie.close (tie.spec (λ c κs. search needs) (λ c κs. search needs) (λ c. search asking))

@@ -1,8 +1,0 @@
--- `key_questions::has_suffix` meets its contract. Assumes nothing.
-use borrow.Author.Needs.{needs}
-use Rattle.key_layer.proofs.Calls.{asking}
-use Rattle.key_questions.proofs.has_suffix.Statement.{statement}
-use Rattle.key_questions.proofs.has_suffix.Tie as tie
-
-pub has-suffix-spec : {M : Type 1} → statement M
-has-suffix-spec = tie.close (tie.spec (λ c κs. search needs) (λ c κs. search needs) (λ c. search asking))
