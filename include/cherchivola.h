@@ -1,15 +1,23 @@
 /*
- * Cherchivola: the frame-buffer bank of the camera, for C and C++.
+ * Cherchivola for C and C++: the frame-buffer bank of the camera (slot words), its labels (keys), one internode by itself, and the label
+ * index in memory that the caller lends.
  *
- * Every call returns 0 when it is accepted. Otherwise it returns the number of its refusal, and every number that was
- * lent to it is as it was before. Where several refusals apply, the lowest is returned. No call keeps a pointer, and
- * none needs more than its arguments: there is no state behind them.
+ * Every call but read_ikey returns 0 when it is accepted. Otherwise it returns the number of its refusal, and every number, word and byte
+ * that was lent to it is as it was before. Where several refusals apply, the lowest is returned. Any values are answered: there is nothing
+ * that a caller has to test first.
  *
- * The calls are in libfirmware.a, which `rt staticlib firmware` writes to target/staticlib. It is code for x86-64 and links
- * into x86-64 Linux programs only, on whatever machine it was made: not into a program for an Arm processor.
+ * There is no state behind the calls, no allocation, no lock and no thread. No call keeps a pointer.
  *
- * A lent pointer points to a number of its type that nobody else reads or writes during the call, and two pointers of
- * one call point to two numbers.
+ * What a caller owes:
+ * - A lent pointer is not null, is aligned for its type and points to as many elements as the length behind it says; `ikeys` points to 15
+ *   words and `children` to 16. Also where a length is 0 the pointer is a valid one, such as that of an empty string.
+ * - Nothing lent to a call overlaps anything else that is lent to it, and nobody else reads or writes it during the call. So a key that
+ *   stands in lent memory is copied out before it is handed to remove_key.
+ * - There is stack enough. Below each part stands how much its calls take.
+ *
+ * The calls are in libfirmware.a, which `rt staticlib firmware` proves and writes to target/staticlib. It is code for x86-64 and links into
+ * x86-64 Linux programs only, on whatever machine it was made: not into a program for an Arm processor. It calls memcpy and memset of the
+ * C library, and nothing else.
  */
 #ifndef CHERCHIVOLA_H
 #define CHERCHIVOLA_H
@@ -21,56 +29,187 @@
 extern "C" {
 #endif
 
-/* Refusals of slot words. */
+/* What a call returns. */
 enum {
     CHERCHIVOLA_ACCEPTED = 0,
     CHERCHIVOLA_WIDTH = 1,    /* the width is not 1 to 15 */
-    CHERCHIVOLA_WORD = 2,     /* the word is not valid at this width */
+    CHERCHIVOLA_WORD = 2,     /* the slot word is not valid at this width */
+    CHERCHIVOLA_NODE = 3,     /* the internode has over 15 ikeys, or they do not strictly rise */
     CHERCHIVOLA_POSITION = 4, /* a position, size or offset is out of range */
-    CHERCHIVOLA_FULL = 5,     /* no slot is free */
-    CHERCHIVOLA_UNUSED = 6    /* the slot is not in use */
+    CHERCHIVOLA_FULL = 5,     /* no slot is free, or the internode has 15 ikeys */
+    CHERCHIVOLA_UNUSED = 6,   /* the slot is not in use */
+    CHERCHIVOLA_KEY = 7,      /* the key is over 256 bytes, or its numbers are not those of its bytes */
+    CHERCHIVOLA_SHIFT = 8,    /* the key has no such layer to shift to */
+    CHERCHIVOLA_ORDER = 9,    /* with this ikey the internode would not strictly rise */
+    CHERCHIVOLA_MEMORY = 10,  /* the lent lengths are wrong, or what stands in lent memory is no index */
+    CHERCHIVOLA_STORED = 11,  /* the key is stored already */
+    CHERCHIVOLA_MISSING = 12, /* the key is not stored, or there are no more than k entries */
+    CHERCHIVOLA_ROOM = 13     /* too few cells or nodes are free */
+};
+
+/* How one stands to the other, as the comparisons write it. */
+enum {
+    CHERCHIVOLA_LESS = 0,
+    CHERCHIVOLA_EQUAL = 1,
+    CHERCHIVOLA_GREATER = 2
 };
 
 /*
  * Slot words. The lowest four bits are the size, the next four the slot at position 0, and so on up to position width-1;
  * the bits above are 0. The first `size` positions are in use, the others are free, and each slot from 0 to width-1 stands
- * at one position.
+ * at one position. The free slot at position width-1 goes out next.
+ *
+ * Stack: under 150 bytes.
  */
 
-/* Words made anew. Refused: 1, and make_sorted 4 for n over the width. */
+/* Words made anew. Refused: 1, and make_sorted 4 for n over the width; then *word is as it was. */
 uint64_t cherchivola_empty(size_t width, uint64_t *word);                 /* no slot in use; slot 0 goes out first */
 uint64_t cherchivola_make_sorted(size_t width, size_t n, uint64_t *word); /* slots 0 to n-1 in use, in order */
 
-/* A value from outside, written to *word where it is a valid word. Refused: 1, 2. */
+/* A value from outside, written to *word where it is a valid word. Refused: 1, 2; then *word is as it was. */
 uint64_t cherchivola_from_value(uint64_t value, size_t width, uint64_t *word);
 
-/* Questions: the answer is written to *told. Refused: 1, 2, and 4 for a place out of range. */
+/* Questions: the answer is written to *told. Refused: 1, 2, and 4 for a place out of range; then *told is as it was. */
 uint64_t cherchivola_size(uint64_t word, size_t width, size_t *told);          /* how many slots are in use */
 uint64_t cherchivola_get(uint64_t word, size_t width, size_t i, size_t *told); /* the slot at position i */
 uint64_t cherchivola_back(uint64_t word, size_t width, size_t *told);          /* the slot at the last position */
 /* the free slot that is so many places before the last position */
 uint64_t cherchivola_back_at_offset(uint64_t word, size_t width, size_t offset, size_t *told);
 
-/* Changes of *word. Refused: 1, 2, and 4 for a place out of range. */
-uint64_t cherchivola_set_size(uint64_t *word, size_t width, size_t n);                     /* only the size */
-uint64_t cherchivola_swap_free_slots(uint64_t *word, size_t width, size_t i, size_t j);    /* two free positions */
+/* Changes of *word. Refused: 1, 2, and 4 for a place out of range; then *word is as it was. */
+uint64_t cherchivola_set_size(uint64_t *word, size_t width, size_t n);                  /* only the size */
+uint64_t cherchivola_swap_free_slots(uint64_t *word, size_t width, size_t i, size_t j); /* two free positions */
 uint64_t cherchivola_remove(uint64_t *word, size_t width, size_t i);         /* the slot rests behind all free ones */
 uint64_t cherchivola_remove_to_back(uint64_t *word, size_t width, size_t i); /* the slot goes out next */
-uint64_t cherchivola_exchange(uint64_t *word, size_t width, size_t i, size_t j);           /* any two positions */
+uint64_t cherchivola_exchange(uint64_t *word, size_t width, size_t i, size_t j);        /* any two positions */
 /* positions i to width-1 become old j to width-1, then old i to j-1 */
 uint64_t cherchivola_rotate(uint64_t *word, size_t width, size_t i, size_t j);
 
-/* The slot at the back is put to use at position i and written to *slot. Refused: 1, 2, 4, 5. */
+/* The slot at the back is put to use at position i and written to *slot. Refused: 1, 2, 4, 5; then both are as they were. */
 uint64_t cherchivola_insert_from_back(uint64_t *word, size_t width, size_t i, size_t *slot);
 
-/* As remove, at the position in use that holds the slot. Refused: 1, 2, 6. */
+/* As remove, at the position in use that holds the slot. Refused: 1, 2, 6; then *word is as it was. */
 uint64_t cherchivola_remove_slot(uint64_t *word, size_t width, size_t slot);
 
 /*
- * Keys. The ikey at an offset: eight bytes from there on as one number, the first byte highest; bytes behind the last count
- * as 0. Never refused: `bytes` points to `len` bytes, and any offset is taken.
+ * Keys. A key is up to 256 bytes of the caller's. It is looked at eight bytes at a time, one layer after the other: beside the bytes stand
+ * three numbers, which key_new makes and the shifts move. They are the eight bytes at the layer as a number (the ikey), how often the key
+ * was shifted, and where the bytes behind those eight begin. Numbers that are not those of a layer of these bytes are refused with 7.
+ *
+ * Stack: compare_keys and key_compare_suffix take 112 bytes for each eight bytes that both keys have, 3.7 kB at most; all others under
+ * 150 bytes.
  */
-uint64_t cherchivola_read_ikey(const uint8_t *bytes, size_t len, size_t offset);
+
+/*
+ * The ikey at an offset: eight bytes from there on as one number, the first byte highest; bytes behind the last count as 0. Never refused,
+ * and what it returns is the ikey: any number of bytes and any offset are taken.
+ */
+uint64_t cherchivola_read_ikey(const uint8_t *bytes, size_t length, size_t offset);
+
+/* How key a stands to key b, byte by byte, and the shorter first where one begins the other. Refused: 7; then *order is as it was. */
+uint64_t cherchivola_compare_keys(const uint8_t *a, size_t a_length, const uint8_t *b, size_t b_length, uint64_t *order);
+
+/* The three numbers of a key at its first layer. Refused: 7; then they are as they were. */
+uint64_t cherchivola_key_new(const uint8_t *bytes, size_t length, uint64_t *ikey, size_t *shift_count, size_t *suffix_start);
+
+/*
+ * A key moved to another layer: its three numbers are read and written. Refused: 7; and 8 for a shift with no more than eight bytes left,
+ * for an unshift at the first layer, and for a shift_by that is no multiple of 8 or more than so many shifts would allow. Then all three
+ * are as they were. unshift_all is never refused with 8.
+ */
+uint64_t cherchivola_key_shift(const uint8_t *bytes, size_t length, uint64_t *ikey, size_t *shift_count, size_t *suffix_start);
+uint64_t cherchivola_key_shift_by(const uint8_t *bytes, size_t length, uint64_t *ikey, size_t *shift_count, size_t *suffix_start,
+                                  size_t by); /* in bytes */
+uint64_t cherchivola_key_unshift(const uint8_t *bytes, size_t length, uint64_t *ikey, size_t *shift_count, size_t *suffix_start);
+uint64_t cherchivola_key_unshift_all(const uint8_t *bytes, size_t length, uint64_t *ikey, size_t *shift_count, size_t *suffix_start);
+
+/*
+ * How a key stands, at its layer alone, to one with this ikey and this many bytes left: by ikey, then by length, where all above 8 count as
+ * one. So two longer keys with one ikey are equal here, and go on at the next layer. Refused: 7; then *order is as it was.
+ */
+uint64_t cherchivola_key_compare(const uint8_t *bytes, size_t length, uint64_t ikey, size_t shift_count, size_t suffix_start,
+                                 uint64_t other_ikey, size_t other_length, uint64_t *order);
+
+/* How a key's bytes from suffix_start on stand to other bytes, of any number. Refused: 7; then *order is as it was. */
+uint64_t cherchivola_key_compare_suffix(const uint8_t *bytes, size_t length, uint64_t ikey, size_t shift_count, size_t suffix_start,
+                                        const uint8_t *other, size_t other_length, uint64_t *order);
+
+/*
+ * An internode: n from 0 to 15, as many strictly rising ikeys, and one child more. The arrays always have 15 and 16 places; what stands in
+ * places that are not in use is not looked at, and stays.
+ *
+ * Stack: under 1 KiB.
+ */
+
+/* The place of the first ikey that is not below the target, or n. Refused: 3; then *position is as it was. */
+uint64_t cherchivola_find_insert_position(size_t n, const uint64_t ikeys[15], const uint64_t children[16], uint64_t target,
+                                          size_t *position);
+
+/* How the target stands to ikey p. Refused: 3, and 4 for p not below n; then *order is as it was. */
+uint64_t cherchivola_compare_key(size_t n, const uint64_t ikeys[15], const uint64_t children[16], uint64_t target, size_t p,
+                                 uint64_t *order);
+
+/* The way down to the target: the child after the last ikey that is not above it. Refused: 3; then *child is as it was. */
+uint64_t cherchivola_child_for(size_t n, const uint64_t ikeys[15], const uint64_t children[16], uint64_t target, uint64_t *child);
+
+/*
+ * Writes ikey p and child p+1; those from there on move up one, and *n grows by 1. Refused: 3, 4 for p over n, 5 with 15 ikeys, and 9 where
+ * the ikey does not belong there; then *n, all ikeys and all children are as they were.
+ */
+uint64_t cherchivola_insert_key_and_child(size_t *n, uint64_t ikeys[15], uint64_t children[16], size_t p, uint64_t ikey, uint64_t child);
+
+/*
+ * The index: labels (keys of 0 to 256 bytes) with a frame number each, in memory that the caller lends to each call. It has three parts:
+ * `nodes`, `cells` and `bytes`, for 1 to 255 nodes and 1 to 255 cells. A label takes one cell; up to 15 labels share a node. The lengths of
+ * nodes and cells are in words, that of bytes in bytes:
+ *
+ *     static uint64_t nodes[CHERCHIVOLA_NODE_WORDS(8)];
+ *     static uint64_t cells[CHERCHIVOLA_CELL_WORDS(40)];
+ *     static uint8_t bytes[CHERCHIVOLA_KEY_BYTES(40)];
+ *
+ * Other lengths are refused with 10, and then nothing is read or written through the three pointers. Before the first call memory may hold
+ * anything; `clear` makes an empty index of it. Every other call but `lengths` looks at all of lent memory first, and is refused with 10
+ * where that is no index by the rules of docs/LAYOUT.md: so is most damage, often a single flipped bit. (Not seen is what leaves an index:
+ * another frame number, another byte far back in a long key.) What clear and accepted calls leave is never refused with 10.
+ *
+ * Stack: `clear` and `lengths` take under 150 bytes. The others take 2 KiB and 400 bytes for each node on the longest way from the root
+ * down through all layers, and 6 KiB at least. With 255 lent nodes 105 kB are enough, whatever stands in them.
+ */
+#define CHERCHIVOLA_NODE_WORDS(n) (2 + 47 * (size_t)(n))
+#define CHERCHIVOLA_CELL_WORDS(c) (2 * (size_t)(c))
+#define CHERCHIVOLA_KEY_BYTES(c) (256 * (size_t)(c))
+
+/* How many nodes and cells these lengths are. It looks at lengths alone. Refused: 10; then *n and *c are as they were. */
+uint64_t cherchivola_lengths(const uint64_t *nodes, size_t node_words, const uint64_t *cells, size_t cell_words, const uint8_t *bytes,
+                             size_t byte_count, size_t *n, size_t *c);
+
+/* Makes an empty index, whatever stood there. Refused: 10 for wrong lengths; then memory is as it was. */
+uint64_t cherchivola_clear(uint64_t *nodes, size_t node_words, uint64_t *cells, size_t cell_words, uint8_t *bytes, size_t byte_count);
+
+/* Stores a new key with its frame number. Refused: 7, 10, 11, 13; then memory is as it was. */
+uint64_t cherchivola_put(uint64_t *nodes, size_t node_words, uint64_t *cells, size_t cell_words, uint8_t *bytes, size_t byte_count,
+                         const uint8_t *key, size_t key_length, uint64_t frame);
+
+/*
+ * Takes a key out; its cell is free again. Refused: 7, 10, 12; then memory is as it was. (cherchivola_remove is the slot word's.)
+ */
+uint64_t cherchivola_remove_key(uint64_t *nodes, size_t node_words, uint64_t *cells, size_t cell_words, uint8_t *bytes,
+                                size_t byte_count, const uint8_t *key, size_t key_length);
+
+/* The frame number of a key. Refused: 7, 10, 12; then *frame is as it was. */
+uint64_t cherchivola_find(const uint64_t *nodes, size_t node_words, const uint64_t *cells, size_t cell_words, const uint8_t *bytes,
+                          size_t byte_count, const uint8_t *key, size_t key_length, uint64_t *frame);
+
+/*
+ * The entry with k entries before it, in the order of the keys' bytes: its cell, the length of its key and its frame number. The key stands
+ * in `bytes` from 256 times the cell on. Refused: 10, and 12 for k not below the number of entries; then all three are as they were.
+ */
+uint64_t cherchivola_kth(const uint64_t *nodes, size_t node_words, const uint64_t *cells, size_t cell_words, const uint8_t *bytes,
+                         size_t byte_count, uint64_t k, uint64_t *cell, uint64_t *key_length, uint64_t *frame);
+
+/* Whether lent memory is an index, all of it. Refused: 10. */
+uint64_t cherchivola_audit(const uint64_t *nodes, size_t node_words, const uint64_t *cells, size_t cell_words, const uint8_t *bytes,
+                           size_t byte_count);
 
 #ifdef __cplusplus
 }

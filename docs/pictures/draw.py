@@ -27,24 +27,24 @@ ROOMS = {
     "the index": ("index", "the index", "clear, put, find, remove, k-th entry"),
     "what it means: a sorted map": ("meaning", "what it means", "the index answers as a sorted map"),
     "lines in, lines out": ("lines", "lines in, lines out", "the program, and what it prints"),
-    "for the camera": ("camera", "for the camera", "calls for C"),
+    "for the camera": ("camera", "for the camera", "35 calls for C, and how answers cross"),
     "for the auditor": ("demands", "for the auditor", "the demands as theorems"),
     "programs that replay recorded answers": ("side", "replay programs", "beside what they ask"),
 }
 # One comment stands over two rooms: these crates are in the second.
 SHARED = {"for the camera, and for the auditor": ("for the camera", "for the auditor", {"demands"})}
 
-# Levels from the bottom up: bands with their left and right edge. Between the floors and the side is a lane for the camera's arrow.
-LEFT, FLOOR, LANE, SIDE, RIGHT = 12, 736, 772, 788, 948
-CAMERA = 616
+# Levels from the bottom up: bands with their left and right edge. The camera's room stands on the index, beside what that means.
+LEFT, FLOOR, SIDE, RIGHT = 12, 772, 788, 948
+CAMERA = 468
 LEVELS = [
-    [("ground", LEFT, LANE)],
-    [("words", LEFT, LANE)],
+    [("ground", LEFT, FLOOR)],
+    [("words", LEFT, FLOOR)],
     [("node", LEFT, FLOOR)],
     [("memory", LEFT, FLOOR)],
     [("index", LEFT, FLOOR)],
-    [("meaning", LEFT, FLOOR)],
-    [("lines", LEFT, CAMERA - 12), ("camera", CAMERA, LANE)],
+    [("meaning", LEFT, CAMERA - 12), ("camera", CAMERA, FLOOR)],
+    [("lines", LEFT, CAMERA - 12)],
     [("demands", LEFT, CAMERA - 12)],
 ]
 FILL = {"meaning": "#e3f1e3", "demands": "#fbf0d0", "camera": "#f6e3dc", "lines": "#f6e3dc", "side": "#eeeeee"}

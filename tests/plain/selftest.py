@@ -7,9 +7,12 @@ import random
 import sys
 import time
 
+import bank
 import calls
 import damage
 import index
+import internodes
+import layers
 import nodes
 import words
 from answers import PlainMap, output_for
@@ -57,6 +60,52 @@ def check_words(scale):
             same(words.valid(word, width), True, "valid")
         same(words.valid(word | 1 << 63 | 1 << 60, width) and width < 15, False, "high bits")
     return "widths 1 to 15"
+
+
+# The calls on slot words: document 01's examples and refusals, and on random walks the moves of words.py; both removals undo an insertion.
+def check_bank(scale):
+    p1, p2, p3 = 0x0123456789ABCDE0, 0x123456789ABCDE01, 0x23456789ABCDE012
+    same(bank.empty(15), (0, p1, None), "P1")
+    same((bank.insert_from_back(p1, 15, 0), bank.insert_from_back(p2, 15, 0)), ((0, p2, 0), (0, p3, 1)), "P2 and P3")
+    same((bank.remove(p3, 15, 0), bank.remove_to_back(p3, 15, 0)), ((0, 0x23456789ABCDE101, None), (0, p2, None)), "P4 and P5")
+    same(bank.make_sorted(15, 15), (0, 0xEDCBA9876543210F, None), "P6")
+    same((bank.insert_from_back(0x1201, 3, 1), bank.rotate(0x2102, 3, 0, 1)), ((0, 0x2102, 1), (0, 0x0212, None)), "P7 and P8")
+    same([bank.get(p1, 16, 99)[0], bank.get(0, 3, 99)[0], bank.get(p1, 15, 15)[0]], [1, 2, 4], "the lowest number")
+    full = bank.make_sorted(4, 4)[1]
+    same([bank.insert_from_back(full, 4, 4)[0], bank.insert_from_back(full, 4, 5)[0], bank.remove_slot(0x3210, 3, 7)[0]], [5, 4, 2], "full")
+    rng = random.Random(6)
+    for _ in range(400 * scale):
+        width = rng.randint(2, 15)
+        word = words.packed(rng.randint(1, width - 1), rng.sample(range(width), width))
+        i = rng.randrange(words.size_of(word))
+        same(bank.remove(word, width, i)[1], words.remove(word, width, i), "remove")
+        more, slot = bank.insert_from_back(word, width, i)[1:]
+        same((more, slot), (words.insert_from_back(word, width, i), bank.back(word, width)[2]), "insert")
+        same(bank.remove_to_back(more, width, i)[1], word, "withdrawn")
+        same(bank.remove_slot(more, width, slot), bank.remove(more, width, i), "by slot")
+    return "P1 to P8"
+
+
+# The calls on keys and on internodes: document 01's examples and refusals.
+def check_layers(scale):
+    same((layers.read_ikey(b"a", 0), layers.read_ikey(b"a\0", 0), layers.read_ikey(b"", 0)), (0x61 << 56, 0x61 << 56, 0), "P9 and P10")
+    same((layers.compare_keys(b"a", b"a\0"), layers.compare_keys(b"a", bytes(257))), ((0, (0,)), (7, None)), "P9, order")
+    key = bytes(range(256))
+    same((layers.new(key)[0], layers.new(key + b"x")[0]), (0, 7), "256 and 257 bytes")
+    numbers = layers.new(key)[1]
+    for shifts in range(31):
+        same(layers.shift_by(key, layers.new(key)[1], 8 * shifts), (0, numbers), "shifted at once")
+        number, numbers = layers.shift(key, numbers)
+        same(number, 0, "shift")
+    same((layers.shift(key, numbers)[0], layers.shift_by(key, numbers, 8)[0], layers.shift_by(key, numbers, 4)[0]), (8, 8, 8), "the 32nd")
+    same((layers.unshift_all(key, numbers), layers.unshift(key, layers.new(key)[1])[0]), (layers.new(key), 8), "back")
+    same(layers.compare(b"abcdefghi", layers.new(b"abcdefghi")[1], layers.read_ikey(b"abcdefgh", 0), 300), (0, (1,)), "two longer ones")
+    node = 3, [10, 20, 30] + [0] * 12, [7, 8, 9, 11] + [0] * 12
+    same([internodes.find_insert_position(*node, target)[1] for target in (20, 21, 31)], [1, 2, 3], "P11")
+    same([internodes.child_for(*node, target)[1] for target in (9, 10, 20, 31)], [7, 8, 9, 11], "descent")
+    same(internodes.insert_key_and_child(*node, 1, 15, 99), (0, (4, [10, 15, 20, 30] + [0] * 11, [7, 8, 99, 9, 11] + [0] * 11)), "insert")
+    same([internodes.insert_key_and_child(*node, p, 15, 99)[0] for p in (0, 2, 4)], [9, 9, 4], "order and place")
+    return "P9 to P11, 31 shifts"
 
 
 # Keys: worked examples.
@@ -304,8 +353,8 @@ def check_scripts(scale):
     return "%d scripts" % count
 
 
-CHECKS = [check_words, check_keys, check_text, check_longest, check_numbers, check_levels, check_shapes, check_refusals,
-          check_crafted, check_calls, check_calls_on_crafted, check_scripts, check_files, check_damage]
+CHECKS = [check_words, check_bank, check_keys, check_layers, check_text, check_longest, check_numbers, check_levels, check_shapes,
+          check_refusals, check_crafted, check_calls, check_calls_on_crafted, check_scripts, check_files, check_damage]
 
 
 # Runs all the checks.

@@ -22,7 +22,7 @@ use Rattle.permuter.specs.Answers.{saidChanged, saidInserted, saidTold, saidMad
 use Rattle.crossing.specs.Crossing.{writtenIf, Crossed}
 
 -- a refusal returns its number, and what was lent stays
-refusal-crosses : (why : Refusal) (back lent : List ℕ) {r : ℕ} → r ≡ numberOf why →
+pub refusal-crosses : (why : Refusal) (back lent : List ℕ) {r : ℕ} → r ≡ numberOf why →
     Crossed (refused why back) r lent lent
 refusal-crosses why back lent e =
     record { number = e; lent = rw (ne-eqb (numberOf why) 0 (λ z. let p = number-pos why in omega arith)) refl }

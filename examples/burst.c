@@ -1,0 +1,90 @@
+/*
+ * A burst of pictures, and what becomes of the frame buffers. The bank is one slot word; width 6 means six buffers. examples/run builds and
+ * runs this.
+ */
+#include <inttypes.h>
+#include <stdio.h>
+#include <stdlib.h>
+
+#include "cherchivola.h"
+
+enum { BUFFERS = 6 };
+
+static uint64_t bank; /* all there is to keep */
+
+/* Here a refusal would be a mistake of ours, so it ends the program. */
+static void accepted(uint64_t number) {
+    if (number != CHERCHIVOLA_ACCEPTED) {
+        printf("refused %" PRIu64 "\n", number);
+        exit(1);
+    }
+}
+
+static size_t in_use(void) {
+    size_t size = 0;
+    accepted(cherchivola_size(bank, BUFFERS, &size));
+    return size;
+}
+
+/* A frame arrives: the next free buffer is handed out, and stands behind those in use. */
+static void capture(const char *frame) {
+    size_t buffer = 0;
+    accepted(cherchivola_insert_from_back(&bank, BUFFERS, in_use(), &buffer));
+    printf("  %s goes into buffer %zu\n", frame, buffer);
+}
+
+/* The last frame was nothing: its buffer goes out next, as if it had never been taken. */
+static void withdraw_last(void) {
+    size_t buffer = 0;
+    accepted(cherchivola_get(bank, BUFFERS, in_use() - 1, &buffer));
+    accepted(cherchivola_remove_to_back(&bank, BUFFERS, in_use() - 1));
+    printf("  buffer %zu is withdrawn\n", buffer);
+}
+
+/* The free buffers in the order in which they will be handed out. The first place that is refused is that of a buffer in use. */
+static void show(void) {
+    size_t buffer = 0;
+    printf("  word %016" PRIX64 ", %zu in use; free, next first:", bank, in_use());
+    for (size_t k = 0; cherchivola_back_at_offset(bank, BUFFERS, k, &buffer) == CHERCHIVOLA_ACCEPTED; k++) printf(" %zu", buffer);
+    printf("\n");
+}
+
+int main(void) {
+    accepted(cherchivola_empty(BUFFERS, &bank));
+    printf("Six buffers, none in use\n");
+    show();
+
+    printf("A burst of two frames\n");
+    capture("frame 1");
+    capture("frame 2");
+    show();
+
+    uint64_t before = bank;
+    printf("Another burst, by a false trigger\n");
+    capture("frame 3");
+    capture("frame 4");
+    printf("It is withdrawn, the last frame first\n");
+    withdraw_last();
+    withdraw_last();
+    show();
+    printf("  the word is %s before that burst\n", bank == before ? "that from" : "NOT that from");
+
+    printf("A true burst gets the same buffers again\n");
+    capture("frame 5");
+    capture("frame 6");
+
+    printf("Frame 1 was stored on the card: buffer 0 is released\n");
+    accepted(cherchivola_remove_slot(&bank, BUFFERS, 0));
+    show();
+
+    printf("Of all free buffers, the one released last is overwritten last\n");
+    capture("frame 7");
+    capture("frame 8");
+    capture("frame 9");
+    show();
+
+    size_t buffer = 99;
+    uint64_t number = cherchivola_insert_from_back(&bank, BUFFERS, in_use(), &buffer);
+    printf("One frame more is refused %" PRIu64 ", and nothing was written: buffer is still %zu\n", number, buffer);
+    return number == CHERCHIVOLA_FULL ? 0 : 1;
+}
