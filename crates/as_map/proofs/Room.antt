@@ -126,7 +126,7 @@ module _ (m : Memory) (v : Layers) (t : IsTree m v) (bytes : Bytes (m .bytes)) (
         ) refl
 
     -- an accepted put takes what it needs
-    pub put-took : heard m (put key x) ≡ done → Took m v key (left m (put key x))
+    pub put-took : heard m (put key x) ≡ done → Took m v key x (left m (put key x))
     unfolding putDone
     put-took e =
         let (short, good, new, room) = put-only (leb (length key) 256) (isTree m) (stored m key) (hasRoom m key) e in
@@ -137,6 +137,8 @@ module _ (m : Memory) (v : Layers) (t : IsTree m v) (bytes : Bytes (m .bytes)) (
           nodes-taken = subst (λ (k : ℕ). freeNodes (with m key x .nodes) (nodesOf m) ≡ drop k nodes)
               (needed-as-said m v t bytes key b fits new) n;
           cell-taken = c;
+          cell-written = refl;
+          key-written = refl;
         })
 
   -- an accepted removal frees the key's cell and nothing else

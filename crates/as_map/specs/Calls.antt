@@ -11,7 +11,7 @@ use Rattle.refusal.specs.Answer.{Answer}
 use Rattle.order.specs.Bytes.{Bytes, bytewise}
 use Rattle.order.specs.Map.{lookup}
 use Rattle.arena.specs.Parts.{part}
-use Rattle.arena.specs.Layout.{keyStart, markAt, keyAt, freedCell, freedKey}
+use Rattle.arena.specs.Layout.{keyStart, markAt, keyAt, freedCell, freedKey, putCell, putKey}
 use Rattle.arena.specs.Free.{freeNodes, freeCells}
 use Rattle.arena.specs.Memory.{Memory, cleared}
 use Rattle.forest.specs.IsTree.{Layers, listing}
@@ -122,10 +122,13 @@ pub record LacksRoom (m : Memory) (v : Layers) (key : List ℕ) : Type 0 where
   pub new : lookup bytewise key (listing m v) ≡ none
   pub too-few : TooFew m v key
 
--- a put took the lowest free nodes, as many as it needs, and the lowest free cell
-pub record Took (m : Memory) (v : Layers) (key : List ℕ) (after : Memory) : Type 0 where
+-- a put of this key with frame number x took the lowest free nodes, as many as it needs, and the lowest free cell: the key and x stand in
+-- it, and every other cell is as it was
+pub record Took (m : Memory) (v : Layers) (key : List ℕ) (x : ℕ) (after : Memory) : Type 0 where
   pub nodes-taken : freeNodes (after .nodes) (nodesOf m) ≡ drop (neededNodes m v key) (freeNodes (m .nodes) (nodesOf m))
   pub cell-taken : freeCells (after .cells) (cellsOf m) ≡ drop 1 (freeCells (m .cells) (cellsOf m))
+  pub cell-written : after .cells ≡ putCell (m .cells) (getD (freeCells (m .cells) (cellsOf m)) 0 0) (length key) x
+  pub key-written : after .bytes ≡ putKey (m .bytes) (getD (freeCells (m .cells) (cellsOf m)) 0 0) key
 
 -- a removal freed cell c, which had the key: its words and bytes are zero, every other cell is as it was, and so are the free nodes
 pub record Freed (m : Memory) (key : List ℕ) (c : ℕ) (after : Memory) : Type 0 where

@@ -191,16 +191,19 @@ held-new s r e = record {
 }
 
 module _ (k : Key) where
-  -- the key's bytes and its numbers
+  -- the key's bytes
   abbrev bytes : List ℕ
   bytes = now (k .bytes)
 
+  -- how often it was shifted
   abbrev shifts : ℕ
   shifts = k .«shift_count»
 
+  -- 7 where the key does not fit, and behind it what a call asks for more
   abbrev rules : List Rule → List Rule
   rules more = keyRules bytes (k .ikey) shifts (k .«suffix_start») more
 
+  -- what a refused call hands back
   abbrev given : List ℕ
   given = keyGiven bytes (k .ikey) shifts (k .«suffix_start»)
 

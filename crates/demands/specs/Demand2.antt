@@ -25,7 +25,7 @@ use Rattle.model.specs.Calls.{nodesOf, cellsOf}
 use Rattle.puts.specs.Needed.{neededNodes, lentMore}
 use Rattle.as_map.specs.Calls.{Call, clear, put, kth, done, entry, refused, heard, left, answers, leftAfter, OfBytes}
 use Rattle.as_map.specs.Calls.{roomFor, rooms, LacksRoom, Took}
-use Rattle.as_map.specs.Map.{mapAnswers, mapAfter}
+use Rattle.as_map.specs.Map.{mapSays, mapLeft, mapAnswers, mapAfter}
 use Rattle.places.proofs.Found as found
 use Rattle.puts.proofs.Needed as needs
 use Rattle.puts.proofs.MoreLent as more
@@ -90,6 +90,18 @@ module _ (n c : ℕ) (n-low : 1 ≤ n) (n-high : n ≤ 255) (c-low : 1 ≤ c) (c
       → heard (leftAfter (emptied n c) calls) (kth k) ≡ refused 12
   kth-past k h = index.kth-past n c n-low n-high c-low c-high of-bytes k h
 
+-- ---- one call, on any lent memory that is a tree v, whatever was called before
+
+module _ (m : Memory) (v : Layers) (t : IsTree m v) (bytes : Bytes (m .bytes)) (call : Call) (b : OfBytes call) where
+  -- Any call on a tree hears what a sorted map with the entries of its listing says,
+  pub one-call-says : heard m call ≡ mapSays (roomFor m call) (listing m v) call
+  one-call-says = says.says m v t bytes call b
+
+  -- and leaves a tree: good memory, whose listing is what that map leaves.
+  pub one-call-leaves : (w : Layers) × IsTree (left m call) w × Bytes (left m call .bytes)
+      × (listing (left m call) w ≡ mapLeft (roomFor m call) (listing m v) call)
+  one-call-leaves = leaves.leaves m v t bytes call b
+
 -- ---- room, on any lent memory that is a tree v, whatever was called before
 --
 -- `neededNodes m v key` (crates/puts/specs/Needed.antt) counts the nodes as document 01 does: one per split node, one more for a new root
@@ -100,8 +112,9 @@ module _ (m : Memory) (v : Layers) (t : IsTree m v) (bytes : Bytes (m .bytes)) (
   pub room-exactly : (heard m (put key x) ≡ refused 13 → LacksRoom m v key) × (LacksRoom m v key → heard m (put key x) ≡ refused 13)
   room-exactly = (room.put-lacks m v t bytes key b x, room.lacks-put m v t bytes key b x)
 
-  -- An accepted put takes what is needed: the lowest free nodes, as many as that, and the lowest free cell.
-  pub put-takes : heard m (put key x) ≡ done → Took m v key (left m (put key x))
+  -- An accepted put takes what is needed: the lowest free nodes, as many as that, and the lowest free cell, in which the key and its frame
+  -- number stand then; all other cells are as they were.
+  pub put-takes : heard m (put key x) ≡ done → Took m v key x (left m (put key x))
   put-takes e = room.put-took m v t bytes key b x e
 
   module _ (short : length key ≤ 256) (new : map.lookup bytewise key (listing m v) ≡ none) where

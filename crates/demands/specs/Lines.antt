@@ -5,7 +5,7 @@
 -- (crates/lines_said/specs/Said.antt); `read line` is the command of a line (crates/text/specs/Command.antt), `heard m call` what the
 -- caller of the index hears. What reaches a file no contract can say; that is compared.
 use Prim.Native.Nat.{ℕ, _+_, _≤_}
-use mathlib.Core.Path.{_≡_}
+use mathlib.Core.Path.{_≡_, refl}
 use mathlib.Core.Bool.{true}
 use mathlib.Core.List.{List, [], _++_}
 use lib.ListN.{length, take}
@@ -13,10 +13,11 @@ use Rattle.arena.specs.Memory.{Memory}
 use Rattle.forest.specs.IsTree.{Layers, IsTree, listing}
 use Rattle.as_map.specs.Calls as calls
 use Rattle.as_map.specs.Calls.{heard}
-use Rattle.text.specs.Command.{put, find, del, list}
+use Rattle.text.specs.Command.{put, find, del, list, bad}
 use Rattle.line_input.specs.Input.{linesOf, inOne, unlessEmpty}
 use Rattle.lines_said.specs.Said.{printed, left}
 use Rattle.lines_as_map.specs.Text.{mapText, shown}
+use Rattle.page.specs.Shown.{badLine}
 use Rattle.lines_as_map.proofs.Prints as prints
 use Rattle.lines_parts.specs.Parts.{leftBy, PartDone, PartsDone}
 use Rattle.lines_parts.proofs.Inputs as inputs
@@ -40,6 +41,11 @@ find-is-the-call m key = (prints.find-prints m key, prints.find-leaves m key)
 pub del-is-the-call : (m : Memory) (key : List ℕ)
     → (printed m (del key) ≡ shown (heard m (calls.remove key))) × (left m (del key) ≡ calls.left m (calls.remove key))
 del-is-the-call m key = (prints.del-prints m key, prints.del-leaves m key)
+
+-- Any other line prints `bad line` and changes nothing.
+pub bad-line : (m : Memory) → (printed m bad ≡ badLine) × (left m bad ≡ m)
+unfolding printed left
+bad-line m = (refl, refl)
 
 -- ---- the whole input
 --

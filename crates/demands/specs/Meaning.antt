@@ -46,6 +46,7 @@ module _ (m : Memory) (v : Layers) (t : IsTree m v) where
           × (index.stored m key ≡ false → lookup bytewise key (listing m v) ≡ none)
       stored-exactly = stored-means m v t bytes key b
 
-      -- An accepted removal frees the cell that has the key, and nothing else.
+      -- An accepted removal frees the cell that has the key, and nothing else (which entry goes, and that a tree is left: `one-call-leaves`
+      -- of Demand2).
       pub removal-frees : heard m (remove key) ≡ done → (c : ℕ) × Freed m key c (left m (remove key))
       removal-frees = remove-freed m v t bytes key b

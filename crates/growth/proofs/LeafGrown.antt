@@ -4,16 +4,17 @@ use mathlib.Core.Logic.{_≢_, ⊎-elim}
 use mathlib.Core.Bool.{Bool, true, cond}
 use mathlib.Core.List.{List, [], _∷_, _++_, map}
 use mathlib.Core.Option.{none}
-use Prim.Native.Nat.{ℕ, suc, _+_, _-_, _%_, _≤_, _<_}
+use Prim.Native.Nat.{ℕ, suc, _+_, _%_, _≤_, _<_}
 use native.Mathlib.Omega.{arith}
 use lib.Dec.{T, eqb, leb, le→leb}
 use lib.ListN.{length, getD, set, take, drop, length-append, length-drop, length-map}
 use lib.Seq.{length-take-le, take-all}
-use borrow.Author.Tests.{le-leb, le-ltb}
-use Rattle.refusal.specs.Answer.{Answer, accepted}
-use Rattle.bank.specs.Bank.{width, slotAt, insertedFromBack}
+use borrow.Author.Tests.{lt-ltb, le-ltb}
+use Rattle.refusal.specs.Answer.{accepted}
+use Rattle.bank.specs.Bank.{slotAt, insertedFromBack}
 use Rattle.bank.specs.Calls.{insertFromBack}
 use Rattle.bank.proofs.Tests.{and-left, and-right, and-both, is-true, holds}
+use Rattle.nibbles.specs.Nibbles.{nibbles}
 use Rattle.nibbles.specs.Words.{validWord, wordOf}
 use Rattle.permuter.specs.Words.{changed}
 use Rattle.leaf_entries.specs.declared.Entry.{Entry}
@@ -128,23 +129,21 @@ module _ (nodes : List ℕ) (n : ℕ) (N : Nodes nodes n) (k : ℕ) (h : k < n) 
       next = wordOf (insertedFromBack p (slotsOf word))
 
       abbrev slot : ℕ
-      slot = slotAt (width (slotsOf word) - 1) (slotsOf word)
+      slot = slotAt 14 (slotsOf word)
 
+      -- as `insert_from_back` answers
       accepts : changed 15 word (insertFromBack p) ≡ accepted (next ∷ slot ∷ [])
+      unfolding nibbles
       accepts = put-accepted word p (leaf-valid nodes k t) (omega (arith, p-most, leaf-length nodes k t)) room
 
       room-is : leafGrown nodes n k e ≡ (entryPut (set nodes (nodeStart k + 1) next) k slot e, One)
       unfolding leafGrown entryAdded
-      room-is =
-          ap (λ (a : Answer). cond (eqb (a .number) 0)
-          (entryPut (set nodes (nodeStart k + 1) (getD (a .values) 0 0)) k (getD (a .values) 1 0) e, One)
-          (leafSplit nodes n k (take p (fifteenAt nodes k) ++ e ∷ drop p (fifteenAt nodes k)))) accepts
+      room-is = rw (lt-ltb (word % 16) 15 room)
 
       grown-room : (lo : ℕ) → Grows (oneAt k) nodes n lo k (leafGrown nodes n k e)
           (writeOrSplit leaf lowOfEntries 15 (cutPlace A) lo k A (View nodes n))
       grown-room lo =
-          let s< : slot < 15 = slot-below word (leaf-valid nodes k t) (width (slotsOf word) - 1)
-          (omega (arith, slots-wide word (leaf-valid nodes k t))) in
+          let s< : slot < 15 = slot-below word (leaf-valid nodes k t) 14 (omega arith) in
           let W = entry-inserted nodes n N k h t p next slot s< accepts e longer-classes longer-rises in
           rw (room-is, leb-is (length A) 15 (omega (arith, A-length, leaf-length nodes k t))) (record {
             still = W .still;
@@ -160,15 +159,6 @@ module _ (nodes : List ℕ) (n : ℕ) (N : Nodes nodes n) (k : ℕ) (h : k < n) 
       size-15 : word % 16 ≡ 15
       size-15 = omega (arith, size-most word (leaf-valid nodes k t))
 
-      refuses : changed 15 word (insertFromBack p) .number ≡ 5
-      unfolding changed
-      refuses =
-          rw (
-            leaf-valid nodes k t,
-            le-leb p (word % 16) (omega (arith, p-most, leaf-length nodes k t)),
-            le-ltb (word % 16) (width (slotsOf word)) (omega (arith, slots-wide word (leaf-valid nodes k t))),
-          )
-
       all-slots : fifteenAt nodes k ≡ es
       unfolding fifteenAt entriesAt
       all-slots =
@@ -177,14 +167,7 @@ module _ (nodes : List ℕ) (n : ℕ) (N : Nodes nodes n) (k : ℕ) (h : k < n) 
 
       full-is : leafGrown nodes n k e ≡ leafSplit nodes n k longer
       unfolding leafGrown entryAdded
-      full-is =
-          ap (λ (b : ℕ). cond (eqb b 0) (
-            entryPut (set nodes (nodeStart k + 1) (getD (changed 15 word (insertFromBack p) .values) 0 0))
-                k (getD (changed 15 word (insertFromBack p) .values) 1 0) e,
-            One,
-          )
-          (leafSplit nodes n k (take p (fifteenAt nodes k) ++ e ∷ drop p (fifteenAt nodes k)))) refuses
-          ∙ ap (λ (xs : List Entry). leafSplit nodes n k (take p xs ++ e ∷ drop p xs)) all-slots
+      full-is = rw (le-ltb (word % 16) 15 full, all-slots)
 
       sixteen : length longer ≡ 16
       sixteen = longer-length ∙ ap suc (leaf-length nodes k t ∙ size-15)

@@ -46,8 +46,8 @@ use denote.Triple.Spec.{Meets, tripleOf}
 use denote.Triple.Walked.{says, Stays, stay-none, stay-none-slice, walkOf, goes-none, goes-none-slice, Walks, ends-at, walked, walk-meets}
 use denote.Exit.{yes}
 use Rattle.key_layer.specs.Keys.{asked, IsTail}
-use Rattle.keys_parts.proofs.refusal_of as g
-use Rattle.keys_parts.proofs.refusal_of.Symbol.{name as #g}
+use Rattle.keys_parts.proofs.inside.refusal_of as g
+use Rattle.keys_parts.proofs.inside.refusal_of.Symbol.{name as #g}
 use Rattle.key.specs.declared.Part.{Part}
 use Rattle.key.proofs.Part as P
 use Rattle.key.proofs.Part.Laws as P′

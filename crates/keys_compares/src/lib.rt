@@ -33,7 +33,7 @@ pub fn compare_suffix(
         «suffix_start» ⌝ }
 {
     let order = ikey::inside::compare_parts(
-        keys_parts::suffix(bytes, ikey, shift_count, suffix_start),
+        keys_parts::inside::suffix(bytes, ikey, shift_count, suffix_start),
         other,
     );
     keys_answers::asked_order(bytes, ikey, shift_count, suffix_start, order)

@@ -13,8 +13,10 @@ use Rattle.text.proofs.Keys.{decide}
 use Rattle.arena.specs.Parts.{putPart}
 use Rattle.text.specs.Command.{Command}
 use Rattle.page.specs.Page.{Typed}
-use Rattle.lines.specs.Answered.{listed, listing, printed, Answered, Room}
-use Rattle.lines.proofs.Replies.{refused-room}
+use Rattle.lines_said.specs.Said.{listed, listing}
+use Rattle.lines_list.specs.Room.{Room}
+use Rattle.lines.specs.Answered.{printed, Answered}
+use Rattle.lines_list.proofs.Rooms.{refused-room}
 use Rattle.lines.proofs.Trees.{listing-fits}
 
 pub roomy : (m : Memory) {out : List ℕ} → ((i : ℕ) → getD (m .cells) i 0 < 2 ^ 64) → 136182 ≤ length out → Room m out

@@ -1,5 +1,5 @@
 -- What put, del and find print, by what the index says. Assumes nothing.
-use Prim.Native.Nat.{ℕ, suc, _+_, _^_, _≤_, _<_}
+use Prim.Native.Nat.{ℕ}
 use mathlib.Core.Path.{_≡_, refl, ap, sym, _∙_}
 use mathlib.Core.Bool.{Bool, true, false, cond}
 use mathlib.Core.List.{List, [], _∷_}
@@ -20,29 +20,14 @@ use Rattle.index_remove.specs.declared.Removed.the-variants as removed-is
 use Rattle.index_questions.specs.declared.Found.{Found}
 use Rattle.index_questions.specs.declared.Found.the-variants as found-is
 use Rattle.index.specs.Answers.{saidAdded, saidRemoved, saidFound}
-use Rattle.page.specs.Shown.{decimal, okLine, refusedLine, numberLine}
+use Rattle.page.specs.Shown.{okLine, refusedLine, numberLine}
 use Rattle.text.specs.Command.{put, find, del}
 use Rattle.page.specs.Page.{Typed}
-use Rattle.page.proofs.Pages.{decimal-short, refused-length, number-length}
 use Rattle.lines.specs.Answered.{Answered, printed, left, unlessRefused}
 
 -- a refusal's number is none of an accepted call
 not-zero : (why : Refusal) → eqb (numberOf why) 0 ≡ false
 not-zero why = ne-eqb (numberOf why) 0 (λ e. omega (arith, number-pos why))
-
--- ---- room
-
-pub digits-room : {n : ℕ} → n < 2 ^ 64 → length (decimal n) ≤ 20
-digits-room {n} h = decimal-short 19 n (omega arith)
-
-pub refused-room : {n l : ℕ} → n < 2 ^ 64 → 100 ≤ l → 0 + length (refusedLine n) ≤ l
-refused-room {n} h k = omega (arith, digits-room h, refused-length n)
-
-pub number-room : {n l : ℕ} → n < 2 ^ 64 → 100 ≤ l → 0 + length (numberLine n) ≤ l
-number-room {n} h k = omega (arith, digits-room h, number-length n)
-
-pub refused-as : {out o : List ℕ} {n r : ℕ} (why : Refusal) → n ≡ numberOf why → Typed out 0 (refusedLine n) r o → Typed out 0 (refusedLine (numberOf why)) r o
-refused-as why e t = rw e at t
 
 -- ---- answers
 

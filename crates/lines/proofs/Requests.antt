@@ -13,7 +13,8 @@ use Rattle.text.specs.declared.inside.Line.the-variants as line-is
 use Rattle.text.specs.Command.{Command, put, find, del, list, bad, heard, Heard, taken, keyOf, lineOf}
 use Rattle.page.specs.Shown.{badLine}
 use Rattle.page.specs.Page.{Typed}
-use Rattle.lines.specs.Answered.{Answered, printed, left, listed}
+use Rattle.lines_said.specs.Said.{listed}
+use Rattle.lines.specs.Answered.{Answered, printed, left}
 
 front : (b key : List ℕ) → take (length key) (putPart b 0 key) ≡ key
 unfolding putPart

@@ -16,8 +16,8 @@ use Rattle.model.specs.Calls.{inKeyOrder}
 use Rattle.views.proofs.Few.{few-255, keys-short}
 use Rattle.page.specs.Shown.{keyShown, headerLine}
 use Rattle.page.proofs.Pages.{decimal-short, hex-length, header-length, entry-length}
-use Rattle.lines.specs.Answered.{entryText, entryTexts, listing}
-use Rattle.lines.proofs.Replies.{digits-room}
+use Rattle.lines_said.specs.Said.{entryText, entryTexts, listing}
+use Rattle.lines_list.proofs.Rooms.{digits-room}
 
 key-fits : (key : List ℕ) → length key ≤ 256 → length (keyShown key) ≤ 512
 unfolding keyShown

@@ -1,33 +1,17 @@
 // The answer to one line. What a caller must lend stands in `requires`: bytes enough for what is printed.
 ghost use mathlib.Core.Path.{_≡_};
-ghost use mathlib.Core.Bool.{true};
-ghost use Prim.Native.Nat.{_+_, _*_, _≤_};
+ghost use Prim.Native.Nat.{_≤_};
 ghost use lib.ListN.{length};
-ghost use Rattle.refusal.specs.Refusals.{numberOf};
-ghost use Rattle.arena.specs.Parts.{part};
 ghost use Rattle.arena.specs.Memory.{memory};
-ghost use Rattle.forest.specs.Walk.{isTree};
-ghost use Rattle.model.specs.Calls.{inKeyOrder};
 ghost use Rattle.page.specs.Page.{Typed};
-ghost use Rattle.page.specs.Shown.{refusedLine};
 ghost use Rattle.text.specs.Command.{read};
 ghost use Rattle.text.specs.Command.{put as Command·put, find as Command·find, del as Command·del};
-ghost use Rattle.lines.specs.Answered.{Answered, printed, listed, entryTexts, Room};
+ghost use Rattle.lines_list.specs.Room.{Room};
+ghost use Rattle.lines.specs.Answered.{Answered, printed};
 use index::Added;
 use index::Found;
-use index::Listed;
 use index::Removed;
-use memory_layout::CELL_BYTES;
-use refusal::Refusal;
 use text::inside::Line;
-
-// Prints `refused` and the number of the refusal.
-fn refused(out: &mut [u8], why: Refusal) -> usize
-    requires { ⌜ 100 ≤ length (now out) ⌝ }
-    ensures { λ r. ⌜ Typed (now (out .entry)) 0 (refusedLine (numberOf why)) r (now (out .exit)) ⌝ }
-{
-    page::inside::refused(out, 0, refusal::number(why))
-}
 
 // Puts a key and prints `ok`, or the refusal.
 fn put(
@@ -46,7 +30,7 @@ fn put(
     let answer = index::put(nodes, cells, bytes, key, frame);
     match answer {
         Added::Done => page::inside::ok(out, 0),
-        Added::Refused(why) => refused(out, why),
+        Added::Refused(why) => lines_list::inside::refused(out, why),
     }
 }
 
@@ -60,7 +44,7 @@ fn del(nodes: &mut [u64], cells: &mut [u64], bytes: &mut [u8], key: &[u8], out: 
     let answer = index::remove(nodes, cells, bytes, key);
     match answer {
         Removed::Done => page::inside::ok(out, 0),
-        Removed::Refused(why) => refused(out, why),
+        Removed::Refused(why) => lines_list::inside::refused(out, why),
     }
 }
 
@@ -74,84 +58,8 @@ fn find(nodes: &[u64], cells: &[u64], bytes: &[u8], key: &[u8], out: &mut [u8]) 
     let answer = index::find(nodes, cells, bytes, key);
     match answer {
         Found::Frame(frame) => page::inside::number(out, 0, frame),
-        Found::Refused(why) => refused(out, why),
+        Found::Refused(why) => lines_list::inside::refused(out, why),
     }
-}
-
-// How many entries a tree has, of which there are at most so many.
-fn count(nodes: &[u64], cells: &[u64], bytes: &[u8], most: u64) -> u64
-    requires { ⌜ (isTree (memory (now nodes) (now cells) (now bytes)) ≡ true)
-        × (length (inKeyOrder (memory (now nodes) (now cells) (now bytes))) ≤ most) ⌝ }
-    ensures { λ r. ⌜ r ≡ length (inKeyOrder (memory (now (nodes .entry)) (now (cells .entry)) (now (bytes .entry)))) ⌝ }
-{
-    let mut k: u64 = 0;
-    // There are k entries or more.
-    while k < most {
-        let answer = index::kth(nodes, cells, bytes, k);
-        if let Listed::Refused(_) = answer {
-            return k;
-        }
-        k += 1;
-    }
-    k
-}
-
-// The part of the bytes that a cell's key takes up.
-fn key_in<'a>(bytes: &'a [u8], cell: u64, length: u64) -> &'a [u8]
-    ensures { λ r. ⌜ now r ≡ part (now (bytes .entry)) (cell * 256) length ⌝ }
-{
-    let all = bytes.len();
-    if all as u64 / 256 < cell {
-        return &bytes[all..all];
-    }
-    let from = cell as usize * CELL_BYTES;
-    if ((all - from) as u64) < length {
-        return &bytes[from..all];
-    }
-    &bytes[from..from + length as usize]
-}
-
-// Prints a line for each of n entries, in key order, from a place on.
-fn entries(nodes: &[u64], cells: &[u64], bytes: &[u8], n: u64, out: &mut [u8], at: usize) -> usize
-    requires { ⌜ isTree (memory (now nodes) (now cells) (now bytes)) ≡ true ⌝ }
-    requires { ⌜ n ≡ length (inKeyOrder (memory (now nodes) (now cells) (now bytes))) ⌝ }
-    requires { ⌜ at + length (entryTexts (memory (now nodes) (now cells) (now bytes))
-        (inKeyOrder (memory (now nodes) (now cells) (now bytes)))) ≤ length (now out) ⌝ }
-    ensures { λ r. ⌜ Typed (now (out .entry)) at
-        (entryTexts (memory (now (nodes .entry)) (now (cells .entry)) (now (bytes .entry)))
-        (inKeyOrder (memory (now (nodes .entry)) (now (cells .entry)) (now (bytes .entry))))) r (now (out .exit)) ⌝ }
-{
-    let mut next = at;
-    let mut k: u64 = 0;
-    // The lines of the first k entries are printed, up to the place `next`.
-    while k < n {
-        let answer = index::kth(nodes, cells, bytes, k);
-        if let Listed::Entry {
-            cell,
-            length,
-            frame,
-        } = answer {
-            next = page::inside::entry(out, next, key_in(bytes, cell, length), frame);
-            k += 1;
-            continue;
-        }
-        return next;
-    }
-    next
-}
-
-// Prints how many entries there are, and a line for each; or the refusal.
-fn list(nodes: &[u64], cells: &[u64], bytes: &[u8], out: &mut [u8]) -> usize
-    requires { ⌜ Room (memory (now nodes) (now cells) (now bytes)) (now out) ⌝ }
-    ensures { λ r. ⌜ Typed (now (out .entry)) 0 (listed (memory (now (nodes .entry)) (now (cells .entry)) (now (bytes .entry)))) r
-        (now (out .exit)) ⌝ }
-{
-    if !audit::is_tree(nodes, cells, bytes) {
-        return refused(out, Refusal::Memory);
-    }
-    let n = count(nodes, cells, bytes, out.len() as u64);
-    let next = page::inside::header(out, 0, n);
-    entries(nodes, cells, bytes, n, out, next)
 }
 
 // Answers one line, without its line feed: carries it out, prints the answer, and tells its length.
@@ -172,7 +80,7 @@ pub fn answer(
         Line::Put { len, frame } => put(nodes, cells, bytes, &key[..len], frame, out),
         Line::Find { len } => find(nodes, cells, bytes, &key[..len], out),
         Line::Del { len } => del(nodes, cells, bytes, &key[..len], out),
-        Line::List => list(nodes, cells, bytes, out),
+        Line::List => lines_list::inside::list(nodes, cells, bytes, out),
         Line::Bad => page::inside::bad_line(out, 0),
     }
 }

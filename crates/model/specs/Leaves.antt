@@ -1,13 +1,13 @@
 -- A leaf of lent memory with an entry less, or with an entry more: in one node, or in two.
 use Prim.Native.Nat.{ℕ, _+_, _-_}
-use mathlib.Core.Bool.{Bool, cond}
-use mathlib.Core.List.{List, [], _∷_, _++_, map}
-use lib.Dec.{eqb}
+use mathlib.Core.Bool.{cond}
+use mathlib.Core.List.{List, _∷_, _++_, map}
+use lib.Dec.{ltb}
 use lib.ListN.{length, getD, set, take, drop}
 use Rattle.memory_layout.specs.Numbers.{ikeysFrom, classesFrom, refsFrom}
-use Rattle.refusal.specs.Answer.{Answer}
-use Rattle.bank.specs.Bank.{slotAt}
-use Rattle.bank.specs.Calls.{Change, insertFromBack, remove}
+use Rattle.bank.specs.Bank.{slotAt, insertedFromBack}
+use Rattle.bank.specs.Calls.{remove}
+use Rattle.nibbles.specs.Words.{wordOf}
 use Rattle.permuter.specs.Words.{changed, madeSorted}
 use Rattle.leaf_entries.specs.declared.Entry.{Entry}
 use Rattle.leaf.specs.Leaf.{none, rank}
@@ -25,13 +25,9 @@ use Rattle.model.specs.declared.Grown.the-variants.{One, Two}
 abbrev pub freshNode : List ℕ → ℕ → ℕ
 freshNode nodes count = getD (freeNodes nodes count) 0 0
 
--- what a call on the slot word of leaf k answers
-abbrev pub slotCall : List ℕ → ℕ → Change → Answer
-slotCall nodes k c = changed 15 (wordAt nodes k 1) c
-
--- the word that it hands back becomes the leaf's
-abbrev pub wordPut : List ℕ → ℕ → Answer → List ℕ
-wordPut nodes k a = set nodes (nodeStart k + 1) (getD (a .values) 0 0)
+-- leaf k with another slot word
+abbrev pub wordPut : List ℕ → ℕ → ℕ → List ℕ
+wordPut nodes k word = set nodes (nodeStart k + 1) word
 
 -- the three numbers of an entry in a slot of node k
 unfoldable pub entryPut : List ℕ → ℕ → ℕ → Entry → List ℕ
@@ -39,9 +35,10 @@ entryPut nodes k slot e =
     set (set (set nodes (nodeStart k + ikeysFrom + slot) (e .ikey)) (nodeStart k + classesFrom + slot) (e .class))
     (nodeStart k + refsFrom + slot) (e .at)
 
--- an entry less: `remove` at its position, and its slot is zeroed
+-- an entry less: the word is what `remove` at its position hands back, and its slot is zeroed
 unfoldable pub entryTaken : List ℕ → ℕ → ℕ → List ℕ
-entryTaken nodes k p = entryPut (wordPut nodes k (slotCall nodes k (remove p))) k (slotAt p (slotsAt nodes k)) none
+entryTaken nodes k p =
+    entryPut (wordPut nodes k (getD (changed 15 (wordAt nodes k 1) (remove p) .values) 0 0)) k (slotAt p (slotsAt nodes k)) none
 
 -- a leaf with these entries in slots 0, 1, .., its word by `make_sorted`; places not in use are zero
 unfoldable pub leafWith : List Entry → Leaf
@@ -64,11 +61,12 @@ leafSplit nodes count k es = (
   Two (ikeyOf es (cutOf es)) (freshNode nodes count),
 )
 
--- an entry more at a position: by `insert_from_back` where the leaf has room
+-- an entry more at a position: where a slot is free, the one at the back is put to use there, as `insert_from_back` does; a full leaf
+-- is split
 unfoldable pub entryAdded : List ℕ → ℕ → ℕ → ℕ → Entry → List ℕ × Grown
 entryAdded nodes count k p e =
-    cond (eqb (slotCall nodes k (insertFromBack p) .number) 0)
-    (entryPut (wordPut nodes k (slotCall nodes k (insertFromBack p))) k (getD (slotCall nodes k (insertFromBack p) .values) 1 0) e, One)
+    cond (ltb (slotsAt nodes k .size) 15)
+    (entryPut (wordPut nodes k (wordOf (insertedFromBack p (slotsAt nodes k)))) k (slotAt 14 (slotsAt nodes k)) e, One)
     (leafSplit nodes count k (take p (fifteenAt nodes k) ++ e ∷ drop p (fifteenAt nodes k)))
 
 -- an entry more, where it belongs

@@ -102,19 +102,12 @@ pub fn rest_zero(nodes: &[u64], k: usize, word: u64) -> bool
     let mut found: u64 = 0;
     // `left` free slots are still to come, `rest` has their nibbles, and `found` is 0 where those before are zero.
     while 0 < left {
-        let e = entry_at(nodes, k, lowest(rest));
+        let e = entry_at(nodes, k, size_of(rest));
         found = found | laid_over(e);
         rest = rest >> 4;
         left -= 1;
     }
     found == 0
-}
-
-// The lowest nibble.
-fn lowest(rest: u64) -> usize
-    ensures { λ r. ⌜ r ≡ rest % 16 ⌝ }
-{
-    (rest & 15) as usize
 }
 
 // The three numbers of an entry laid over each other: 0 where each is.

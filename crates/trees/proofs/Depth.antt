@@ -7,41 +7,24 @@ use native.Mathlib.Omega.{arith}
 use lib.Arith.{lt-of-le-ne}
 use lib.ListN.{length}
 use Rattle.order.specs.Lists.{total}
+use Rattle.order.proofs.Sums.{sumBelow, sum-plus, sum-most, sum-part}
 use Rattle.order.specs.Map.{All, _a∷_}
 use Rattle.trees.specs.Nodes.{NodeList, oneAt}
 use Rattle.trees.specs.Tree.{LowsAgree, TreeOver, treeReaches, HoldsTree}
 use Rattle.trees.proofs.Nodes.{oneAt-same}
 use Rattle.trees.proofs.FreeNumbers.{in-use-inside}
 
--- the sum of g over the numbers below n
-abbrev sumTo : ℕ → (ℕ → ℕ) → ℕ
-sumTo zero g = 0
-sumTo (suc n) g = g n + sumTo n g
-
-sum-plus : (n : ℕ) (f g : ℕ → ℕ) → sumTo n (λ j. f j + g j) ≡ sumTo n f + sumTo n g
-sum-plus zero f g = refl
-sum-plus (suc n) f g = omega (arith, sum-plus n f g)
-
-sum-le : (n : ℕ) (g : ℕ → ℕ) → ((j : ℕ) → g j ≤ 1) → sumTo n g ≤ n
-sum-le zero g h = omega arith
-sum-le (suc n) g h = omega (arith, sum-le n g h, h n)
-
-sum-hit : (n k : ℕ) → k < n → 1 ≤ sumTo n (oneAt k)
-sum-hit zero k h = absurd (omega arith)
-sum-hit (suc n) k h = go (ℕ-discrete k n) (λ g. sum-hit n k g)
-  where
-    go : Dec (k ≡ n) → (k < n → 1 ≤ sumTo n (oneAt k)) → 1 ≤ oneAt k n + sumTo n (oneAt k)
-    go (yes e) r = rw (← e) (omega (arith, oneAt-same k))
-    go (no e) r = omega (arith, r (lt-of-le-ne (omega arith) e))
+sum-hit : (n k : ℕ) → k < n → 1 ≤ sumBelow n (oneAt k)
+sum-hit n k h = omega (arith, sum-part n k (oneAt k) h, oneAt-same k)
 
 module _ (W : Type 0) (top : ℕ) (m : NodeList W) where
-  sum-tree : (d lo : ℕ) (t : TreeOver W d) → HoldsTree W m d t → LowsAgree W d (lo, t) → suc d ≤ sumTo (length m) (treeReaches W d t)
+  sum-tree : (d lo : ℕ) (t : TreeOver W d) → HoldsTree W m d t → LowsAgree W d (lo, t) → suc d ≤ sumBelow (length m) (treeReaches W d t)
   sum-tree zero lo t h l = sum-hit (length m) (t .0) (in-use-inside m (t .0) (rw h tt))
   sum-tree (suc d) lo t h l = go (t .1) (h .1) (l .0) (l .2) (λ lo u. sum-tree d lo u)
     where
       go : (ps : List (ℕ × TreeOver W d)) → All (λ p. HoldsTree W m d (p .1)) ps → 0 < length ps → All (LowsAgree W d) ps
-          → ((lo : ℕ) (u : TreeOver W d) → HoldsTree W m d u → LowsAgree W d (lo, u) → suc d ≤ sumTo (length m) (treeReaches W d u))
-          → suc (suc d) ≤ sumTo (length m) (λ j. oneAt (t .0) j + total (λ p. treeReaches W d (p .1) j) ps)
+          → ((lo : ℕ) (u : TreeOver W d) → HoldsTree W m d u → LowsAgree W d (lo, u) → suc d ≤ sumBelow (length m) (treeReaches W d u))
+          → suc (suc d) ≤ sumBelow (length m) (λ j. oneAt (t .0) j + total (λ p. treeReaches W d (p .1) j) ps)
       go [] g z w f = absurd (omega arith)
       go (p ∷ ps) (g a∷ gs) z (w a∷ ws) f =
           omega (
@@ -54,4 +37,4 @@ module _ (W : Type 0) (top : ℕ) (m : NodeList W) where
 
   pub height-below-length : (d lo : ℕ) (t : TreeOver W d) → HoldsTree W m d t → LowsAgree W d (lo, t)
       → ((j : ℕ) → treeReaches W d t j ≤ 1) → d < length m
-  height-below-length d lo t h l u = omega (arith, sum-tree d lo t h l, sum-le (length m) (treeReaches W d t) u)
+  height-below-length d lo t h l u = omega (arith, sum-tree d lo t h l, sum-most (length m) (treeReaches W d t) u)

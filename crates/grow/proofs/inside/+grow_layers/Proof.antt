@@ -6,8 +6,8 @@ use borrow.Fn.PlainCycle.{Measures, is, falls, and}
 use Rattle.grow.proofs.inside.grow_layers.Reads as grow-layers
 use Rattle.grow.proofs.inside.grow_layers.Kinds as grow-layers-kinds
 use Rattle.grow.proofs.inside.+grow_layers.Lts-grow_layers as grow-layers-lts
-use Rattle.edit.proofs.inside.lowest.Reads as lowest-reads
-use Rattle.edit.proofs.inside.put_at.Reads as put-at-reads
+use Rattle.index_words.proofs.inside.lowest.Reads as lowest-reads
+use Rattle.index_words.proofs.inside.put_at.Reads as put-at-reads
 use Rattle.grow.proofs.inside.both_go_on.Reads as both-go-on-reads
 use Rattle.grow.proofs.inside.put_both.Reads as put-both-reads
 use Rattle.grow.proofs.inside.put_link.Reads as put-link-reads

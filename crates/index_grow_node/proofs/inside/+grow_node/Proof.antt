@@ -7,7 +7,7 @@ use Rattle.index_grow_node.proofs.inside.grow_node.Reads as grow-node
 use Rattle.index_grow_node.proofs.inside.grow_node.Kinds as grow-node-kinds
 use Rattle.index_grow_node.proofs.inside.+grow_node.Lts-grow_node as grow-node-lts
 use Rattle.edit.proofs.inside.grow_internode.Reads as grow-internode-reads
-use Rattle.edit.proofs.inside.grow_leaf.Reads as grow-leaf-reads
+use Rattle.index_leaf_grow.proofs.inside.grow_leaf.Reads as grow-leaf-reads
 use Rattle.seek.proofs.inside.child_for.Reads as child-for-reads
 use Rattle.index_grow_node.proofs.Nodes.{grows}
 use Rattle.index_grow_node.proofs.inside.+grow_node.{statement}

@@ -1,6 +1,7 @@
 -- `inside::find` meets its contract. Assumes nothing.
 use borrow.Author.Needs.{needs}
-use Rattle.lines.proofs.Replies.{number-room, find-frame, find-refused}
+use Rattle.lines_list.proofs.Rooms.{number-room}
+use Rattle.lines.proofs.Replies.{find-frame, find-refused}
 use Rattle.lines.proofs.inside.find.Statement.{statement}
 use Rattle.lines.proofs.inside.find.Tie as tie
 

@@ -1,0 +1,57 @@
+// An entry more in a leaf. What a caller must know stands in `requires`; what only a tree has is not required.
+ghost use mathlib.Core.Path.{_≡_};
+ghost use Prim.Native.Nat.{_≤_, _<_};
+ghost use lib.ListN.{length};
+ghost use Rattle.arena.specs.Layout.{nodeStart};
+ghost use Rattle.model.specs.Leaves.{leafSplit, leafGrown};
+use index_leaf::inside::leaf_of;
+use index_leaf::inside::place_greater;
+use index_leaf::inside::sixteen;
+use index_words::inside::lowest;
+use index_words::inside::put_at;
+use index_words::inside::put_entry;
+use leaf::Entry;
+use leaf::inside::size_of;
+use memory_layout::HEADER_WORDS;
+use memory_layout::NODE_WORDS;
+use model::Grown;
+use node_words::inside::slot_of;
+use node_words::inside::word_of;
+use nodes_cut::inside::cut;
+use turns::inside::inserted;
+
+// Writes sixteen entries to two leaves: k, and on its right the lowest free node.
+pub fn split_leaf(nodes: &mut [u64], count: usize, k: usize, entries: [Entry; 16]) -> Grown
+    requires { ⌜ (nodeStart count ≡ length (now nodes)) × (k < count) × (count ≤ 255) ⌝ }
+    ensures { λ r. ⌜ (now (nodes .exit), r) ≡ leafSplit (now (nodes .entry)) count k entries ⌝ }
+{
+    let c = cut(entries);
+    let right = lowest(nodes, count);
+    let up = entries[c].ikey;
+    arena::inside::store_leaf(nodes, k, leaf_of(entries, 0, c));
+    arena::inside::store_leaf(nodes, right, leaf_of(entries, c, 16 - c));
+    Grown::Two {
+        ikey: up,
+        node: right as u64,
+    }
+}
+
+// Adds an entry to leaf k: the slot at the back is put to use at its position; a full leaf becomes two.
+pub fn grow_leaf(nodes: &mut [u64], count: usize, k: usize, e: Entry) -> Grown
+    requires { ⌜ (nodeStart count ≡ length (now nodes)) × (k < count) × (count ≤ 255) ⌝ }
+    ensures { λ r. ⌜ (now (nodes .exit), r) ≡ leafGrown (now (nodes .entry)) count k e ⌝ }
+{
+    let p = place_greater(nodes, k, e);
+    let word = word_of(nodes, k as u64, 1);
+    if size_of(word) < 15 {
+        put_at(
+            nodes,
+            HEADER_WORDS + k * NODE_WORDS + 1,
+            inserted(word, 15, p),
+        );
+        put_entry(nodes, k, slot_of(word, 14), e);
+        return Grown::One;
+    }
+    let entries = sixteen(nodes, k, p, e);
+    split_leaf(nodes, count, k, entries)
+}

@@ -1,0 +1,2 @@
+// A word or an entry of one node of lent memory changed.
+pub mod inside;

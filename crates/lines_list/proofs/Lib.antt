@@ -1,0 +1,3 @@
+pub mod Rooms
+pub mod Listings
+pub mod Parts

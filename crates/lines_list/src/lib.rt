@@ -1,0 +1,2 @@
+// The listing of an index, printed to lent bytes.
+pub mod inside;
