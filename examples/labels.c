@@ -29,8 +29,14 @@ static void said(uint64_t number) {
 }
 
 static void put(const char *label, uint64_t frame) {
+    uint64_t lacking = 0;
+    uint64_t number = cherchivola_put(LENT, LABEL(label), frame, &lacking);
     printf("put %s %" PRIu64 ": ", label, frame);
-    said(cherchivola_put(LENT, LABEL(label), frame));
+    if (number == CHERCHIVOLA_FEW_NODES) {
+        printf("refused, %" PRIu64 " nodes lacking\n", lacking);
+    } else {
+        said(number);
+    }
 }
 
 static void take_out(const char *label) {
@@ -79,6 +85,11 @@ int main(void) {
     put("badger", 1312);
     put("owl", 1313); /* a fifth label finds no cell */
     list();
+
+    take_out("marten");
+    take_out("badger");
+    put("fox at the feeder, in the rain, left", 1320);
+    put("fox at the feeder, in the rain, right", 1321); /* a cell is free, and nodes for the common beginning are not */
 
     uint8_t byte = bytes[0];
     bytes[0] ^= 1; /* something else wrote into lent memory: a bit of the label in cell 0 */

@@ -44,7 +44,8 @@ enum {
     CHERCHIVOLA_MEMORY = 10,  /* the lent lengths are wrong, or what stands in lent memory is no index */
     CHERCHIVOLA_STORED = 11,  /* the key is stored already */
     CHERCHIVOLA_MISSING = 12, /* the key is not stored, or there are no more than k entries */
-    CHERCHIVOLA_ROOM = 13     /* too few cells or nodes are free */
+    CHERCHIVOLA_NO_CELL = 13, /* no cell is free */
+    CHERCHIVOLA_FEW_NODES = 14 /* a cell is free, and too few nodes are */
 };
 
 /* How one stands to the other, as the comparisons write it. */
@@ -186,9 +187,12 @@ uint64_t cherchivola_lengths(const uint64_t *nodes, size_t node_words, const uin
 /* Makes an empty index, whatever stood there. Refused: 10 for wrong lengths; then memory is as it was. */
 uint64_t cherchivola_clear(uint64_t *nodes, size_t node_words, uint64_t *cells, size_t cell_words, uint8_t *bytes, size_t byte_count);
 
-/* Stores a new key with its frame number. Refused: 7, 10, 11, 13; then memory is as it was. */
+/*
+ * Stores a new key with its frame number. Refused: 7, 10, 11; 13 where no cell is free; 14 where a cell is free and the key needs more nodes
+ * than are: how many more goes into *lacking. Every other answer leaves *lacking as it was. Refused, memory is as it was.
+ */
 uint64_t cherchivola_put(uint64_t *nodes, size_t node_words, uint64_t *cells, size_t cell_words, uint8_t *bytes, size_t byte_count,
-                         const uint8_t *key, size_t key_length, uint64_t frame);
+                         const uint8_t *key, size_t key_length, uint64_t frame, uint64_t *lacking);
 
 /*
  * Takes a key out; its cell is free again. Refused: 7, 10, 12; then memory is as it was. (cherchivola_remove is the slot word's.)

@@ -4,8 +4,8 @@
 #     python3 calls.py --memories 9 --calls 30 --seed 1 > ../crates/replay_index/stdin
 #
 # A line has 570 bytes: the call (m a new memory of zeros, c clear, p put, d remove, f find, k k-th), its number in two hex digits, a frame
-# number in sixteen, a number in sixteen (k for k-th; for m eight digits N and eight C), the sum in sixteen, the key's length in
-# four, the key in 514 filled up with zeros, and a line feed. For k-th the key is the entry's. The sum begins with 1 and takes, for each
+# number in sixteen, a number in sixteen (k for k-th; for a put the nodes lacking, 0 but with 14; for m eight digits N and eight C), the sum in
+# sixteen, the key's length in four, the key in 514 filled up with zeros, and a line feed. For k-th the key is the entry's. The sum begins with 1 and takes, for each
 # word of nodes, of cells and each byte, three times itself and the number, modulo 2^64.
 
 import argparse
@@ -49,14 +49,19 @@ def key_of(rng, kind):
     return bytes(rng.randint(0, 255) for _ in range(rng.choice([3, 8, 9, 17, 256, 257])))
 
 
+# A put, made on the memory, as a line.
+def put_line(memory, key, frame):
+    answer = index.put(memory, key, frame, audited=True)
+    return line("p", answer.number, frame, answer.lacking or 0, sum_of(memory), key)
+
+
 # One random call, made on the memory, as a line.
 def random_call(rng, memory, kind, growing):
     key = key_of(rng, kind if kind < 5 else rng.randrange(5))
     call = rng.choice("pppppppfdk" if growing else "ppfdddk")
     if call == "p":
         frame = rng.choice((0, TOP, rng.getrandbits(64)))
-        number = index.put(memory, key, frame, audited=True).number
-        return line("p", number, frame, 0, sum_of(memory), key)
+        return put_line(memory, key, frame)
     if call == "d":
         return line("d", index.remove(memory, key, audited=True).number, 0, 0, sum_of(memory), key)
     if call == "f":
@@ -67,14 +72,13 @@ def random_call(rng, memory, kind, growing):
     return line("k", answer.number, answer.frame or 0, k, sum_of(memory), answer.key or b"")
 
 
-# Two keys of 256 bytes that differ in the last byte: the second put needs 31 nodes, and gets 13 where one fewer is free.
+# Two keys of 256 bytes that differ in the last byte: the second put needs 31 nodes, and gets 14 with 1 lacking where one fewer is free.
 def long_pair(nodes):
     memory = Memory(nodes, 2)
     yield line("m", 0, 0, (nodes << 32) + 2)
     yield line("c", index.clear(memory).number, 0, 0, sum_of(memory))
     for last in (b"a", b"b"):
-        key = b"k" * 255 + last
-        yield line("p", index.put(memory, key, 7, audited=True).number, 7, 0, sum_of(memory), key)
+        yield put_line(memory, b"k" * 255 + last, 7)
 
 
 # All calls on one memory.

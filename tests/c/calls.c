@@ -244,9 +244,13 @@ static void call_lengths(void) {
 }
 
 static void call_clear(void) { lend(), returned(cherchivola_clear(LENT)), take_back(); }
-static void call_put(void) { lend(), returned(cherchivola_put(LENT, key[0], key_length[0], at(3))), take_back(); }
 static void call_remove_key(void) { lend(), returned(cherchivola_remove_key(LENT, key[0], key_length[0])), take_back(); }
 static void call_audit(void) { lend(), returned(cherchivola_audit(LENT)), take_back(); }
+
+static void call_put(void) {
+    lend(), returned(cherchivola_put(LENT, key[0], key_length[0], at(3), word(0, 4)));
+    tell_word(0), take_back();
+}
 
 static void call_find(void) {
     lend(), returned(cherchivola_find(LENT, key[0], key_length[0], word(0, 3)));

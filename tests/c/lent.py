@@ -157,8 +157,10 @@ class Lent:
         if len(key) > 256:
             said = 7
         elif name == "put":
-            full = not stored and (len(self.map) == self.memory.cell_count() or self.room.need(key) > self.room.free)
-            said = 11 if stored else 13 if full else 0
+            full = len(self.map) == self.memory.cell_count()
+            lacking = 0 if stored else self.room.need(key) - self.room.free
+            said = 11 if stored else 13 if full else 14 if lacking > 0 else 0
+            assert said != 14 or values == (lacking,), (key, values, lacking)
         else:
             said = 0 if stored else 12
         assert said == number, (name, key, said, number)
@@ -184,7 +186,9 @@ class Lent:
 
     def ask_put(self, lent):
         key, self.frame = self.some_key(), self.rng.choice((0, TOP, self.rng.getrandbits(64)))
-        return (self.frame, key), index.put(lent, key, self.frame).number, ()
+        old = before(self.rng)
+        answer = index.put(lent, key, self.frame)
+        return (self.frame, old, key), answer.number, (or_else(answer.lacking, old),)
 
     def ask_remove_key(self, lent):
         key = self.some_key()

@@ -23,11 +23,17 @@ class PlainMap:
             return 7
         if key in self.frames:
             return 11
-        if len(self.frames) == self.cells or self.room.need(key) > self.room.free:
+        if len(self.frames) == self.cells:
             return 13
+        if self.lacking(key) > 0:
+            return 14
         self.room.put(key)
         self.frames[key] = frame
         return 0
+
+    # How many nodes a new key lacks; 0 or less where none.
+    def lacking(self, key):
+        return self.room.need(key) - self.room.free
 
     # 0 and the frame, or the refusal and None.
     def find(self, key):

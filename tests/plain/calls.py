@@ -53,15 +53,20 @@ def random_key(rng):
     return rng.choice((key, key, key, key, rng.randrange(3000).to_bytes(2, "big"), long))
 
 
+# The line of a put: with 14 the nodes lacking stand behind the number.
+def put_line(key, frame, answer):
+    return "put %s %d %d" % (shown(key), frame, answer.number) + (" %d" % answer.lacking if answer.lacking else "")
+
+
 # Makes one random call and gives its line.
 def random_call(rng, memory, stored):
     key = rng.choice(sorted(stored)) if stored and rng.random() < 0.35 else random_key(rng)
     kind = rng.choice(("put",) * 6 + ("del",) * 3 + ("find", "kth"))
     if kind == "put":
         frame = rng.choice((0, TOP, rng.randrange(1 << 64)))
-        number = index.put(memory, key, frame).number
-        stored.update({key} if number == 0 else ())
-        return "put %s %d %d" % (shown(key), frame, number)
+        answer = index.put(memory, key, frame)
+        stored.update({key} if answer.number == 0 else ())
+        return put_line(key, frame, answer)
     if kind == "del":
         number = index.remove(memory, key).number
         stored.difference_update({key} if number == 0 else ())
@@ -107,7 +112,7 @@ def on_growing(rng, count):
         yield "clear %d" % index.clear(memory).number
         for i, number in enumerate(range(1, 142)[::step]):
             key = stem + number.to_bytes(2, "big")
-            yield "put %s %d %d" % (shown(key), i, index.put(memory, key, i).number)
+            yield put_line(key, i, index.put(memory, key, i))
             if i % 10 == 0 or i > 130:
                 yield "sum %d" % sum_of(memory)
 

@@ -1,6 +1,6 @@
 # The index over lent memory: clear, put, find, remove and the k-th entry.
 #
-# Every call answers Answer(number, key, frame): number 0 is accepted, else the refusal.
+# Every call answers Answer(number, key, frame, lacking): number 0 is accepted, else the refusal; with 14 the nodes lacking.
 
 from collections import namedtuple
 
@@ -10,11 +10,11 @@ from keys import LINK, LONGER, LONGEST, class_at, ikey_at, rank
 from listing import listing
 from memory import LEAF
 
-TOO_LONG, NOT_A_TREE, STORED, NOT_STORED, NO_ROOM = 7, 10, 11, 12, 13
+TOO_LONG, NOT_A_TREE, STORED, NOT_STORED, NO_CELL, FEW_NODES = 7, 10, 11, 12, 13, 14
 FOUND, CONFLICT, ABSENT = "found", "conflict", "absent"
 WIDTH = nodes.WIDTH
 
-Answer = namedtuple("Answer", "number key frame", defaults=(None, None))
+Answer = namedtuple("Answer", "number key frame lacking", defaults=(None, None, None))
 
 # Where a key belongs. layer: its layer's number from the top. above: the (leaf, slot) of the link to that
 # layer, or None. path: the internodes on the way down. leaf, position: the entry found or in conflict, or the
@@ -44,8 +44,11 @@ def put(memory, key, frame, audited=False):
     if place.kind == FOUND:
         return Answer(STORED)
     free_cells = memory.free_cells()
-    if not free_cells or nodes_needed(memory, place, key) > len(memory.free_nodes()):
-        return Answer(NO_ROOM)
+    if not free_cells:
+        return Answer(NO_CELL)
+    lacking = nodes_needed(memory, place, key) - len(memory.free_nodes())
+    if lacking > 0:
+        return Answer(FEW_NODES, lacking=lacking)
     memory.set_cell(free_cells[0], key, frame)
     if place.kind == CONFLICT:
         grow_layers(memory, place, key, free_cells[0])

@@ -62,7 +62,7 @@ def put_reaches(plain, key, frame):
     number = plain.put(key, frame)
     if number == 0:
         return {"put 0", name} | ({name + " just fits"} if need == free else set())
-    return {"put 13", "no cell" if full else name + " short by %d" % (need - free)}
+    return {"put %d" % number, "no cell" if full else name + " short by %d" % (need - free)}
 
 
 # All that a script comes to.
@@ -79,6 +79,6 @@ def reached_by(script):
 
 
 # What the scripts together must reach.
-WANTED = {"bad line", "no cell", "put 0", "put 7", "put 11", "put 13", "chain of 1", "chain of 31",
+WANTED = {"bad line", "no cell", "put 0", "put 7", "put 11", "put 13", "put 14", "chain of 1", "chain of 31",
           "chain of 1 short by 1", "chain of 1 just fits"}
 WANTED |= {"split of %d%s" % (need, how) for need in (1, 2, 3) for how in ("", " just fits", " short by 1")}

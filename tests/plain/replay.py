@@ -46,8 +46,9 @@ class Replay:
         return index.clear(self.memory).number == int(number)
 
     # A put and its answer.
-    def do_put(self, key, frame, number):
-        return index.put(self.memory, key_of(key), int(frame)).number == int(number)
+    def do_put(self, key, frame, number, lacking=None):
+        answer = index.put(self.memory, key_of(key), int(frame))
+        return (answer.number, answer.lacking) == (int(number), lacking and int(lacking))
 
     # A removal and its answer.
     def do_del(self, key, number):

@@ -1,4 +1,4 @@
-# How many nodes an index would have left, counted without nodes: a second opinion on refusal 13.
+# How many nodes an index would have left, counted without nodes: a second opinion on refusal 14.
 #
 # A layer is a set of entries, and a row of separators between its leaves, each with a height: those of height 1
 # stand just above the leaves. The separators of one height between two higher ones are one internode.

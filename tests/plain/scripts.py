@@ -83,7 +83,7 @@ def many(script):
     keys = [number.to_bytes(width, "big") for number in rng.sample(range(60000), 140)]
     order = rng.randrange(3)
     keys = sorted(keys, reverse=order == 1) if order < 2 else keys
-    refused = [key for key in keys if script.put(key) == 13]
+    refused = [key for key in keys if script.put(key) in (13, 14)]
     for key in refused[:3]:
         script.remove(script.some_key())
         script.put(key)

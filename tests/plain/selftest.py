@@ -127,11 +127,12 @@ def check_text(scale):
 # The longest keys: 31 nodes for the second of two that differ in the last byte, and not with 30 free.
 def check_longest(scale):
     one, two = b"x" * 255 + b"1", b"x" * 255 + b"2"
-    for n, expected in ((31, 13), (32, 0)):
+    for n, expected in ((31, (14, 1)), (32, (0, None))):
         memory = run(fresh(n, 2), [(one, 1)])
         before = memory.copy()
-        same(index.put(memory, two, 2).number, expected, "second long key")
-        same(memory.same(before), expected == 13, "refused means unchanged")
+        answer = index.put(memory, two, 2)
+        same((answer.number, answer.lacking), expected, "second long key")
+        same(memory.same(before), answer.number != 0, "refused means unchanged")
     same(memory.free_nodes(), [], "31 nodes taken")
     same([words.in_use(memory.word(node, 1)) for node in (0, 30, 31)], [[0], [0], [0, 1]], "chain of leaves")
     links = [nodes.entry_at(memory, node, 0)[1:] for node in range(31)]
@@ -226,16 +227,20 @@ def check_refusals(scale):
     for memory, put, absent, found in cases:
         before = memory.copy()
         same(index.put(memory, k, 5).number, put, "put stored")
-        same(index.put(memory, b"b", 5).number, 13 if memory is good else 10, "put without room")
+        same(index.put(memory, b"b", 5).number, 13 if memory is good else 10, "put without a cell")
         same([call(memory, b"b").number for call in (index.find, index.remove)], [absent] * 2, "not stored")
         same((index.find(memory, k).number, index.kth(memory, 0).number), (found, found), "stored")
         same(index.kth(memory, 1).number, absent, "k too large")
         same([index.put(memory, long, 1).number, index.find(memory, long).number, index.remove(memory, long).number],
              [7] * 3, "too long first")
         same(memory.same(before), True, "nothing changed")
+    crowded = run(fresh(1, 2), [(b"a" * 8 + b"1", 1)])
+    before = crowded.copy()
+    same(index.put(crowded, b"a" * 8 + b"2", 2), index.Answer(14, lacking=1), "put with a cell and no node")
+    same(crowded.same(before), True, "nothing changed")
     same((index.clear(short).number, index.clear(bad).number), (10, 0), "clear")
     same(bad.same(fresh(1, 1)), True, "cleared")
-    return "7, 10, 11, 12, 13"
+    return "7, 10, 11, 12, 13, 14"
 
 
 # A key out of few bytes, so that beginnings agree.
@@ -253,7 +258,9 @@ def random_call(rng, memory, plain):
     before = memory.copy()
     if kind == "put":
         frame = rng.randrange(1 << 64)
-        answer, expected = index.put(memory, key, frame), index.Answer(plain.put(key, frame))
+        lacking = plain.lacking(key) if len(key) <= 256 and key not in plain.frames else 0
+        number = plain.put(key, frame)
+        answer, expected = index.put(memory, key, frame), index.Answer(number, lacking=lacking if number == 14 else None)
     elif kind == "remove":
         answer, expected = index.remove(memory, key), index.Answer(plain.remove(key))
     elif kind == "find":
@@ -296,7 +303,7 @@ def check_calls_on_crafted(scale):
             key = rng.choice(sorted(frames)) if frames and rng.random() < 0.3 else random_key(rng)
             if rng.random() < 0.7:
                 number = index.put(memory, key, 1).number
-                same(number in ((11,) if key in frames else (0, 13)), True, name)
+                same(number in ((11,) if key in frames else (0, 13, 14)), True, name)
                 frames.update({key: 1} if number == 0 else {})
             else:
                 same(index.remove(memory, key).number, 0 if frames.pop(key, None) is not None else 12, name)

@@ -13,8 +13,8 @@ use Rattle.order.specs.Bytes.{bytewise}
 use Rattle.order.specs.Map as order
 use Rattle.order.specs.Map.{Map, All, a[], _a∷_, lookup}
 use Rattle.arena.specs.Memory.{Memory}
-use Rattle.as_map.specs.Calls.{Call, clear, put, find, remove, kth, OfBytes, Heard, done, frame, entry, refused, heard, left, leftAfter, answers}
-use Rattle.as_map.specs.Calls.{Room, enough, roomFor, rooms}
+use Rattle.as_map.specs.Calls.{Call, clear, put, find, remove, kth, OfBytes, Heard, done, frame, entry, refusal, refused}
+use Rattle.as_map.specs.Calls.{heard, left, leftAfter, answers, Room, cellFree, nodesEnough, nodesLacking, roomFor, rooms}
 use Rattle.as_map.specs.Map.{whether, mapSays, mapLeft, mapAnswers, mapAfter}
 use Rattle.as_map.proofs.Says.{says}
 use Rattle.as_map.proofs.Leaves.{Lists, leaves}
@@ -51,21 +51,23 @@ abbrev pub refusalOf : Heard → ℕ
 refusalOf done = 0
 refusalOf (frame x) = 0
 refusalOf (entry key x) = 0
-refusalOf (refused n) = n
+refusalOf (refusal n told) = n
 
 not-10 : {h : Heard} (n : ℕ) → refusalOf h ≡ n → n ≢ 10 → h ≢ refused 10
 not-10 n e d q = d (sym e ∙ ap refusalOf q)
 
 says-not-10 : (room : Room) (xs : Map) (call : Call) → mapSays room xs call ≢ refused 10
 says-not-10 room xs clear = not-10 0 refl (λ e. omega arith)
-says-not-10 room xs (put key x) = go (leb (length key) 256) (lookup bytewise key xs) (enough room)
+says-not-10 room xs (put key x) = go (leb (length key) 256) (lookup bytewise key xs) (cellFree room) (nodesEnough room) (nodesLacking room)
   where
-    go : (short : Bool) (found : Option ℕ) (room : Bool)
-        → cond short (whether (cond room done (refused 13)) (λ y. refused 11) found) (refused 7) ≢ refused 10
-    go true none true = not-10 0 refl (λ e. omega arith)
-    go true none false = not-10 13 refl (λ e. omega arith)
-    go true (some y) room = not-10 11 refl (λ e. omega arith)
-    go false found room = not-10 7 refl (λ e. omega arith)
+    go : (short : Bool) (found : Option ℕ) (cell nodes : Bool) (n : ℕ)
+        → cond short (whether (cond cell (cond nodes done (refusal 14 (n ∷ []))) (refused 13)) (λ y. refused 11) found) (refused 7)
+        ≢ refused 10
+    go true none true true n = not-10 0 refl (λ e. omega arith)
+    go true none true false n = not-10 14 refl (λ e. omega arith)
+    go true none false nodes n = not-10 13 refl (λ e. omega arith)
+    go true (some y) cell nodes n = not-10 11 refl (λ e. omega arith)
+    go false found cell nodes n = not-10 7 refl (λ e. omega arith)
 says-not-10 room xs (find key) = go (leb (length key) 256) (lookup bytewise key xs)
   where
     go : (short : Bool) (found : Option ℕ) → cond short (whether (refused 12) frame found) (refused 7) ≢ refused 10

@@ -1,6 +1,6 @@
 -- What each call leaves of memory that is a tree: a tree that lists what the sorted map leaves. A refused call leaves memory as it was.
 use mathlib.Core.Path.{_≡_, refl, sym, ap, subst}
-use mathlib.Core.Bool.{Bool, true, false, cond, not}
+use mathlib.Core.Bool.{Bool, true, false, cond, not, _&&_}
 use mathlib.Core.List.{List, [], _∷_}
 use mathlib.Core.Option.{Option, none, some}
 use Prim.Native.Nat.{ℕ, _*_, _≤_, Ordering, Ordering·lt, Ordering·eq, Ordering·gt}
@@ -10,14 +10,14 @@ use lib.ListN.{length}
 use borrow.Author.Tests.{leb-true}
 use Rattle.bank.proofs.Tests.{is-true}
 use Rattle.puts.proofs.Puts.{put-tree}
-use Rattle.refusal.specs.Answer.{_unless_, answered}
+use Rattle.refusal.specs.Answer.{_unless_, _telling_, answered}
 use Rattle.order.specs.Bytes.{Bytes, bytewise}
 use Rattle.order.specs.Map.{Map, pick, lookup, alter, insert, delete}
 use Rattle.arena.specs.Memory.{Memory, nodeCount, cellCount, rightLengths, emptied, cleared}
 use Rattle.arena.proofs.Measures.{right-means}
 use Rattle.forest.specs.IsTree.{Layers, IsTree, listing}
 use Rattle.forest.proofs.Cleared.{cleared-tree}
-use Rattle.model.specs.Calls.{place, stored, without, with, hasRoom, removed, putDone, whenAccepted}
+use Rattle.model.specs.Calls.{place, stored, without, with, hasCell, hasNodes, hasRoom, lacking, removed, putDone, whenAccepted}
 use Rattle.places.proofs.Found.{isSome, stored-lookup}
 use Rattle.places.proofs.Removed.{removed-tree}
 use Rattle.places.proofs.FreedCells.{bytes-zeros}
@@ -71,13 +71,17 @@ remove-left true true after before = refl
 remove-left true false after before = refl
 remove-left false there after before = refl
 
-put-left : (short there room : Bool) (after before : Memory)
-    → whenAccepted (answered ((7 unless short) ∷ (10 unless true) ∷ (11 unless not there) ∷ (13 unless room) ∷ []) [] []) after before
-    ≡ cond short (cond there before (cond room after before)) before
-put-left true true room after before = refl
-put-left true false true after before = refl
-put-left true false false after before = refl
-put-left false there room after before = refl
+put-left : (short there cell nodes : Bool) (n : ℕ) (after before : Memory)
+    → whenAccepted
+    (answered
+    ((7 unless short) ∷ (10 unless true) ∷ (11 unless not there) ∷ (13 unless cell) ∷ ((14 unless nodes) telling (n ∷ [])) ∷ []) [] [])
+    after before
+    ≡ cond short (cond there before (cond (cell && nodes) after before)) before
+put-left true true cell nodes n after before = refl
+put-left true false true true n after before = refl
+put-left true false true false n after before = refl
+put-left true false false nodes n after before = refl
+put-left false there cell nodes n after before = refl
 
 module _ (m : Memory) (v : Layers) (t : IsTree m v) (bytes : Bytes (m .bytes)) where
   -- a call that leaves memory as it was
@@ -112,7 +116,10 @@ module _ (m : Memory) (v : Layers) (t : IsTree m v) (bytes : Bytes (m .bytes)) w
       put-leaves : Lists (left m (put key x)) (mapLeft (roomFor m (put key x)) (listing m v) (put key x))
       unfolding putDone
       put-leaves =
-          rw (accepted m v t bytes, put-left (leb (length key) 256) (stored m key) (hasRoom m key) (with m key x) m)
+          rw (
+            accepted m v t bytes,
+            put-left (leb (length key) 256) (stored m key) (hasCell m) (hasNodes m key) (lacking m key) (with m key x) m,
+          )
           (go (leb (length key) 256) (stored m key) (hasRoom m key) (lookup bytewise key (listing m v)) (stored-lookup m v t bytes key b) its-more)
         where
           go : (short there room : Bool) (found : Option ℕ) → there ≡ isSome found

@@ -1,17 +1,16 @@
 -- When a put is refused for want of room, what an accepted put takes, and what an accepted removal frees, where memory is a tree. Assumes
 -- nothing.
 use mathlib.Core.Path.{_≡_, refl, sym, ap, _∙_, subst}
-use mathlib.Core.Logic.{_⊎_, inl, inr}
 use mathlib.Core.Bool.{Bool, true, false, not, _&&_}
 use mathlib.Core.List.{List, [], _∷_}
 use mathlib.Core.Option.{Option, none, some}
-use Prim.Native.Nat.{ℕ, suc, _*_, _≤_, _<_}
+use Prim.Native.Nat.{ℕ, suc, _+_, _-_, _*_, _≤_, _<_}
 use native.Mathlib.Omega.{arith}
 use lib.Dec.{leb}
-use lib.ListN.{length, drop}
+use lib.ListN.{length, getD, drop}
 use borrow.Author.Tests.{leb-true, leb-false, le-leb, lt-leb}
 use Rattle.bank.proofs.Tests.{is-true}
-use Rattle.refusal.specs.Answer.{_unless_, answered}
+use Rattle.refusal.specs.Answer.{_unless_, _telling_, answered}
 use Rattle.order.specs.Bytes.{Bytes, bytewise}
 use Rattle.order.specs.Map.{lookup}
 use Rattle.arena.specs.Free.{freeNodes, freeCells}
@@ -21,30 +20,23 @@ use Rattle.forest.specs.Walk.{isTree}
 use Rattle.forest.specs.IsTree.{Layers, IsTree, listing}
 use Rattle.forest.proofs.Accepts.{tree-accepted}
 use Rattle.forest.proofs.Cleared.{nothing, nothing-is, cells-lent}
-use Rattle.model.specs.Calls.{nodesOf, cellsOf, place, stored, needed, hasRoom, with, without, putDone, removed}
+use Rattle.model.specs.Calls.{nodesOf, cellsOf, stored, needed, hasCell, hasNodes, hasRoom, lacking, with, putDone, removed}
 use Rattle.places.proofs.Found.{isSome, stored-lookup}
 use Rattle.places.proofs.FreedCells.{bytes-zeros}
 use Rattle.places.proofs.Removed.{removed-frees}
 use Rattle.puts.specs.Needed.{leading, fullUpward, neededNodes}
 use Rattle.puts.proofs.Needed.{needed-as-said}
 use Rattle.puts.proofs.Puts as puts
-use Rattle.as_map.specs.Calls.{put, remove, Heard, done, refused, heardOf, heard, left, enough, roomFor, LacksRoom, Took, Freed}
+use Rattle.as_map.specs.Calls.{put, remove, Heard, done, frame, entry, refusal, refused, heardOf, heard, left}
+use Rattle.as_map.specs.Calls.{cellFree, nodesEnough, roomFor, NoCell, FewNodes, Took, Freed}
 use Rattle.as_map.proofs.Says.{says}
 use Rattle.as_map.proofs.After.{refusalOf}
 
--- ---- room, and too few cells or nodes
+-- ---- no cell, and a new key
 
-few : (need : ℕ) (cells nodes : List ℕ) → leb 1 (length cells) && leb need (length nodes) ≡ false → (cells ≡ []) ⊎ (length nodes < need)
-few need [] nodes e = inl refl
-few need (c ∷ cells) nodes e = inr (leb-false need (length nodes) (rw (le-leb 1 (suc (length cells)) (omega arith)) at e))
-
-no-room : (need : ℕ) (cells nodes : List ℕ) → (cells ≡ []) ⊎ (length nodes < need) → leb 1 (length cells) && leb need (length nodes) ≡ false
-no-room need cells nodes (inl e) = rw e refl
-no-room need cells nodes (inr h) = rw (lt-leb need (length nodes) h) (go (leb 1 (length cells)))
-  where
-    go : (b : Bool) → b && false ≡ false
-    go true = refl
-    go false = refl
+no-cells : (cells : List ℕ) → leb 1 (length cells) ≡ false → cells ≡ []
+no-cells [] e = refl
+no-cells (c ∷ cells) e = let h = leb-false 1 (suc (length cells)) e in absurd (omega arith)
 
 new-missing : (found : Option ℕ) → isSome found ≡ false → found ≡ none
 new-missing none e = refl
@@ -52,9 +44,12 @@ new-missing (some x) e = let z : _≡_ {A = ℕ} 0 1 = cc in absurd (omega arith
 
 -- ---- the rules of a put and of a removal
 
-abbrev putRuled : Bool → Bool → Bool → Bool → Heard
-putRuled short tree there room =
-    heardOf (answered ((7 unless short) ∷ (10 unless tree) ∷ (11 unless not there) ∷ (13 unless room) ∷ []) [] []) (λ values. done)
+abbrev putRuled : Bool → Bool → Bool → Bool → Bool → ℕ → Heard
+putRuled short tree there cell nodes n =
+    heardOf
+    (answered
+    ((7 unless short) ∷ (10 unless tree) ∷ (11 unless not there) ∷ (13 unless cell) ∷ ((14 unless nodes) telling (n ∷ [])) ∷ []) [] [])
+    (λ values. done)
 
 abbrev removeRuled : Bool → Bool → Bool → Heard
 removeRuled short tree there =
@@ -65,22 +60,41 @@ other : {h k : Heard} → h ≡ k → (refusalOf h ≡ refusalOf k → ⊥) → 
 other e d = d (ap refusalOf e)
 
 -- 13 only where all rules before it hold
-only-13 : (short tree there room : Bool) → putRuled short tree there room ≡ refused 13
-    → (short ≡ true) × (tree ≡ true) × (there ≡ false) × (room ≡ false)
-only-13 true true false false e = (refl, refl, refl, refl)
-only-13 true true false true e = absurd (other e (λ z. omega arith))
-only-13 true true true room e = absurd (other e (λ z. omega arith))
-only-13 true false there room e = absurd (other e (λ z. omega arith))
-only-13 false tree there room e = absurd (other e (λ z. omega arith))
+only-13 : (short tree there cell nodes : Bool) (n : ℕ) → putRuled short tree there cell nodes n ≡ refused 13
+    → (short ≡ true) × (tree ≡ true) × (there ≡ false) × (cell ≡ false)
+only-13 true true false false nodes n e = (refl, refl, refl, refl)
+only-13 true true false true true n e = absurd (other e (λ z. omega arith))
+only-13 true true false true false n e = absurd (other e (λ z. omega arith))
+only-13 true true true cell nodes n e = absurd (other e (λ z. omega arith))
+only-13 true false there cell nodes n e = absurd (other e (λ z. omega arith))
+only-13 false tree there cell nodes n e = absurd (other e (λ z. omega arith))
+
+-- the first number that a refusal tells, else 0
+abbrev toldOf : Heard → ℕ
+toldOf done = 0
+toldOf (frame x) = 0
+toldOf (entry key x) = 0
+toldOf (refusal n told) = getD told 0 0
+
+-- 14 only where all rules before it hold, and with this number
+only-14 : (short tree there cell nodes : Bool) (n k : ℕ) → putRuled short tree there cell nodes n ≡ refusal 14 (k ∷ [])
+    → (short ≡ true) × (tree ≡ true) × (there ≡ false) × (cell ≡ true) × (nodes ≡ false) × (n ≡ k)
+only-14 true true false true false n k e = (refl, refl, refl, refl, refl, ap toldOf e)
+only-14 true true false true true n k e = absurd (other e (λ z. omega arith))
+only-14 true true false false nodes n k e = absurd (other e (λ z. omega arith))
+only-14 true true true cell nodes n k e = absurd (other e (λ z. omega arith))
+only-14 true false there cell nodes n k e = absurd (other e (λ z. omega arith))
+only-14 false tree there cell nodes n k e = absurd (other e (λ z. omega arith))
 
 -- accepted only where all rules hold
-put-only : (short tree there room : Bool) → putRuled short tree there room ≡ done
-    → (short ≡ true) × (tree ≡ true) × (there ≡ false) × (room ≡ true)
-put-only true true false true e = (refl, refl, refl, refl)
-put-only true true false false e = absurd (other e (λ z. omega arith))
-put-only true true true room e = absurd (other e (λ z. omega arith))
-put-only true false there room e = absurd (other e (λ z. omega arith))
-put-only false tree there room e = absurd (other e (λ z. omega arith))
+put-only : (short tree there cell nodes : Bool) (n : ℕ) → putRuled short tree there cell nodes n ≡ done
+    → (short ≡ true) × (tree ≡ true) × (there ≡ false) × (cell ≡ true) × (nodes ≡ true)
+put-only true true false true true n e = (refl, refl, refl, refl, refl)
+put-only true true false true false n e = absurd (other e (λ z. omega arith))
+put-only true true false false nodes n e = absurd (other e (λ z. omega arith))
+put-only true true true cell nodes n e = absurd (other e (λ z. omega arith))
+put-only true false there cell nodes n e = absurd (other e (λ z. omega arith))
+put-only false tree there cell nodes n e = absurd (other e (λ z. omega arith))
 
 remove-only : (short tree there : Bool) → removeRuled short tree there ≡ done → (short ≡ true) × (tree ≡ true) × (there ≡ true)
 remove-only true true true e = (refl, refl, refl)
@@ -100,39 +114,67 @@ module _ (m : Memory) (v : Layers) (t : IsTree m v) (bytes : Bytes (m .bytes)) (
   tree : isTree m ≡ true
   tree = is-true (isTree m) (tree-accepted m v t)
 
+  -- the key is not stored where the listing does not have it, and where that is so the put needs what document 01 counts
+  new-listed : stored m key ≡ false → lookup bytewise key (listing m v) ≡ none
+  new-listed e = new-missing (lookup bytewise key (listing m v)) (sym (stored-lookup m v t bytes key b) ∙ e)
+
+  new-stored : lookup bytewise key (listing m v) ≡ none → stored m key ≡ false
+  new-stored e = stored-lookup m v t bytes key b ∙ ap isSome e
+
   module _ (x : ℕ) where
-    pub put-lacks : heard m (put key x) ≡ refused 13 → LacksRoom m v key
+    pub put-no-cell : heard m (put key x) ≡ refused 13 → NoCell m v key
     unfolding putDone
-    put-lacks e =
-        let (short, good, new, full) = only-13 (leb (length key) 256) (isTree m) (stored m key) (hasRoom m key) e in
+    put-no-cell e =
+        let (short, good, new, none-free) =
+        only-13 (leb (length key) 256) (isTree m) (stored m key) (hasCell m) (hasNodes m key) (lacking m key) e in
+        record { short = leb-true (length key) 256 short; new = new-listed new; no-cell = no-cells cells none-free }
+
+    pub no-cell-put : NoCell m v key → heard m (put key x) ≡ refused 13
+    unfolding putDone
+    no-cell-put l = rw (le-leb (length key) 256 (l .short), tree, new-stored (l .new), l .no-cell) refl
+
+    pub put-few-nodes : (n : ℕ) → heard m (put key x) ≡ refusal 14 (n ∷ []) → FewNodes m v key n
+    unfolding putDone
+    put-few-nodes n e =
+        let (short, good, new, cell, few, told) =
+        only-14 (leb (length key) 256) (isTree m) (stored m key) (hasCell m) (hasNodes m key) (lacking m key) n e in
         let fits = leb-true (length key) 256 short in
+        let less : length nodes < needed m key = leb-false (needed m key) (length nodes) few in
+        let same : needed m key ≡ neededNodes m v key = needed-as-said m v t bytes key b fits new in
         record {
           short = fits;
-          new = new-missing (lookup bytewise key (listing m v)) (sym (stored-lookup m v t bytes key b) ∙ new);
-          too-few = subst (λ (n : ℕ). (cells ≡ []) ⊎ (length nodes < n)) (needed-as-said m v t bytes key b fits new)
-              (few (needed m key) cells nodes full);
+          new = new-listed new;
+          cell-free = leb-true 1 (length cells) cell;
+          not-none = omega arith;
+          lacking = omega arith;
         }
 
-    pub lacks-put : LacksRoom m v key → heard m (put key x) ≡ refused 13
+    pub few-nodes-put : (n : ℕ) → FewNodes m v key n → heard m (put key x) ≡ refusal 14 (n ∷ [])
     unfolding putDone
-    lacks-put l =
-        let new : stored m key ≡ false = stored-lookup m v t bytes key b ∙ ap isSome (l .new) in
+    few-nodes-put n l =
+        let new = new-stored (l .new) in
+        let same : needed m key ≡ neededNodes m v key = needed-as-said m v t bytes key b (l .short) new in
+        let some-lack = l .not-none in
+        let sum = l .lacking in
+        let told : lacking m key ≡ n = omega arith in
         rw (
           le-leb (length key) 256 (l .short),
           tree,
           new,
-          no-room (needed m key) cells nodes
-              (subst (λ (n : ℕ). (cells ≡ []) ⊎ (length nodes < n)) (sym (needed-as-said m v t bytes key b (l .short) new)) (l .too-few)),
-        ) refl
+          le-leb 1 (length cells) (l .cell-free),
+          lt-leb (needed m key) (length nodes) (omega arith),
+        ) (ap (λ (k : ℕ). refusal 14 (k ∷ [])) told)
 
     -- an accepted put takes what it needs
     pub put-took : heard m (put key x) ≡ done → Took m v key x (left m (put key x))
     unfolding putDone
     put-took e =
-        let (short, good, new, room) = put-only (leb (length key) 256) (isTree m) (stored m key) (hasRoom m key) e in
+        let (short, good, new, cell, enough) =
+        put-only (leb (length key) 256) (isTree m) (stored m key) (hasCell m) (hasNodes m key) (lacking m key) e in
         let fits = leb-true (length key) 256 short in
+        let room : hasRoom m key ≡ true = rw (cell, enough) refl in
         let (n, c) = puts.put-takes m v t bytes key b fits x new room in
-        rw (short, good, new, room)
+        rw (short, good, new, cell, enough)
         (record {
           nodes-taken = subst (λ (k : ℕ). freeNodes (with m key x .nodes) (nodesOf m) ≡ drop k nodes)
               (needed-as-said m v t bytes key b fits new) n;
@@ -173,11 +215,14 @@ module _ (n c : ℕ) (n-low : 1 ≤ n) (n-high : n ≤ 255) (c-low : 1 ≤ c) (c
       needed-as-said m v t (bytes-zeros (c * 256)) key b short
       (stored-lookup m v t (bytes-zeros (c * 256)) key b ∙ ap isSome no-entry)
 
-  has-room : enough (roomFor m (put key x)) ≡ true
-  has-room =
+  has-cell : cellFree (roomFor m (put key x)) ≡ true
+  has-cell =
       let e : length (freeCells (m .cells) (cellsOf m)) ≡ c =
       ap (λ (k : ℕ). length (freeCells (m .cells) k)) (cells-lent n c n-low n-high c-low c-high) ∙ emptied-cells n c n-low in
-      rw (needs-none, le-leb 1 (length (freeCells (m .cells) (cellsOf m))) (omega arith), le-leb 0 (length (freeNodes (m .nodes) (nodesOf m))) (omega arith)) refl
+      le-leb 1 (length (freeCells (m .cells) (cellsOf m))) (omega arith)
+
+  has-nodes : nodesEnough (roomFor m (put key x)) ≡ true
+  has-nodes = rw (needs-none, le-leb 0 (length (freeNodes (m .nodes) (nodesOf m))) (omega arith)) refl
 
   pub first-put : heard m (put key x) ≡ done
-  first-put = says m v t (bytes-zeros (c * 256)) (put key x) b ∙ rw (le-leb (length key) 256 short, has-room, no-entry) refl
+  first-put = says m v t (bytes-zeros (c * 256)) (put key x) b ∙ rw (le-leb (length key) 256 short, has-cell, has-nodes, no-entry) refl

@@ -8,17 +8,18 @@ use native.Mathlib.Omega.{arith}
 use lib.Dec.{T, leb, ltb, leb·zero, leb·suc-zero, leb·suc-suc}
 use lib.ListN.{length, getD}
 use Rattle.bank.proofs.Tests.{is-true}
-use Rattle.refusal.specs.Answer.{_unless_, answered}
+use Rattle.refusal.specs.Answer.{_unless_, _telling_, answered}
 use Rattle.order.specs.Bytes.{Bytes, bytewise}
 use Rattle.order.specs.Map as order
 use Rattle.arena.specs.Memory.{Memory, rightLengths, cleared}
 use Rattle.forest.specs.Walk.{isTree}
 use Rattle.forest.specs.IsTree.{Layers, IsTree, listing}
 use Rattle.forest.proofs.Accepts.{tree-accepted}
-use Rattle.model.specs.Calls.{place, stored, frameOf, inKeyOrder, entryOf, findSaid, kthSaid, removed, putDone, hasRoom}
+use Rattle.model.specs.Calls.{place, stored, frameOf, inKeyOrder, entryOf, findSaid, kthSaid, removed, putDone, hasCell, hasNodes, lacking}
 use Rattle.views.proofs.Listed.{keyAndFrame, cells-listed}
 use Rattle.places.proofs.Found.{asList, isSome, stored-lookup, frame-lookup}
-use Rattle.as_map.specs.Calls.{Call, clear, put, find, remove, kth, OfBytes, Heard, done, frame, entry, refused, heardOf, heard, keyTold, roomFor}
+use Rattle.as_map.specs.Calls.{Call, clear, put, find, remove, kth, OfBytes, Heard, done, frame, entry, refusal, refused}
+use Rattle.as_map.specs.Calls.{heardOf, heard, keyTold, roomFor}
 use Rattle.as_map.specs.Map.{whether, mapSays}
 
 -- ---- the rules of each call, once memory is a tree: `short` for a key of at most 256 bytes, `found` for what the map has
@@ -37,13 +38,17 @@ remove-ruled true none = refl
 remove-ruled true (some x) = refl
 remove-ruled false found = refl
 
-put-ruled : (short : Bool) (found : Option ℕ) (room : Bool)
-    → heardOf (answered ((7 unless short) ∷ (10 unless true) ∷ (11 unless not (isSome found)) ∷ (13 unless room) ∷ []) [] []) (λ values. done)
-    ≡ cond short (whether (cond room done (refused 13)) (λ y. refused 11) found) (refused 7)
-put-ruled true none true = refl
-put-ruled true none false = refl
-put-ruled true (some x) room = refl
-put-ruled false found room = refl
+put-ruled : (short : Bool) (found : Option ℕ) (cell nodes : Bool) (n : ℕ)
+    → heardOf
+    (answered
+    ((7 unless short) ∷ (10 unless true) ∷ (11 unless not (isSome found)) ∷ (13 unless cell) ∷ ((14 unless nodes) telling (n ∷ [])) ∷ [])
+    [] []) (λ values. done)
+    ≡ cond short (whether (cond cell (cond nodes done (refusal 14 (n ∷ []))) (refused 13)) (λ y. refused 11) found) (refused 7)
+put-ruled true none true true n = refl
+put-ruled true none true false n = refl
+put-ruled true none false nodes n = refl
+put-ruled true (some x) cell nodes n = refl
+put-ruled false found cell nodes n = refl
 
 -- the k-th of a list, seen through f
 kth-ruled : (f : ℕ → List ℕ × ℕ) (k : ℕ) (cells : List ℕ)
@@ -85,7 +90,9 @@ module _ (m : Memory) (v : Layers) (t : IsTree m v) (bytes : Bytes (m .bytes)) w
 
     put-says : (x : ℕ) → heard m (put key x) ≡ mapSays (roomFor m (put key x)) (listing m v) (put key x)
     unfolding putDone
-    put-says x = rw (accepted, stored-lookup m v t bytes key b) (put-ruled (leb (length key) 256) found (hasRoom m key))
+    put-says x =
+        rw (accepted, stored-lookup m v t bytes key b)
+        (put-ruled (leb (length key) 256) found (hasCell m) (hasNodes m key) (lacking m key))
 
   kth-says : (k : ℕ) → heard m (kth k) ≡ mapSays (roomFor m (kth k)) (listing m v) (kth k)
   unfolding kthSaid

@@ -1,8 +1,7 @@
 -- Calls on the index, what their caller hears, and what each finds free.
-use Prim.Native.Nat.{ℕ, _≤_, _<_}
+use Prim.Native.Nat.{ℕ, _+_, _-_, _≤_}
 use mathlib.Core.Path.{_≡_}
-use mathlib.Core.Logic.{_⊎_}
-use mathlib.Core.Bool.{Bool, cond, _&&_}
+use mathlib.Core.Bool.{Bool, cond}
 use mathlib.Core.List.{List, [], _∷_}
 use mathlib.Core.Option.{none}
 use lib.Dec.{leb, eqb}
@@ -25,16 +24,22 @@ pub data Call : Type 0 where
   find remove : List ℕ → Call
   kth : ℕ → Call
 
--- what a caller hears: done, a frame number, an entry with its key and frame number, or a refusal
+-- what a caller hears: done, a frame number, an entry with its key and frame number, or a refusal, by its number and the numbers that it
+-- tells
 pub data Heard : Type 0 where
   done : Heard
   frame : ℕ → Heard
   entry : List ℕ → ℕ → Heard
-  refused : ℕ → Heard
+  refusal : ℕ → List ℕ → Heard
 
--- of an answer: its number where it is a refusal, else what its values tell
+-- a refusal that tells nothing beside its number
+abbrev pub refused : ℕ → Heard
+refused n = refusal n []
+
+-- of an answer: its number and values where it is a refusal, else what its values tell. No call of the index hands anything back, so the
+-- values of a refusal are what it tells.
 abbrev pub heardOf : Answer → (List ℕ → Heard) → Heard
-heardOf a tell = cond (eqb (a .number) 0) (tell (a .values)) (refused (a .number))
+heardOf a tell = cond (eqb (a .number) 0) (tell (a .values)) (refusal (a .number) (a .values))
 
 -- the k-th entry: its key are the bytes of that length in that cell
 abbrev pub keyTold : Memory → List ℕ → List ℕ
@@ -64,9 +69,17 @@ pub record Room : Type 0 where
   pub nodes-free : ℕ
   pub nodes-needed : ℕ
 
--- a cell is free, and nodes enough are
-abbrev pub enough : Room → Bool
-enough room = leb 1 (room .cells-free) && leb (room .nodes-needed) (room .nodes-free)
+-- a cell is free
+abbrev pub cellFree : Room → Bool
+cellFree room = leb 1 (room .cells-free)
+
+-- as many nodes are free as are needed
+abbrev pub nodesEnough : Room → Bool
+nodesEnough room = leb (room .nodes-needed) (room .nodes-free)
+
+-- how many nodes are lacking: those needed less those free
+abbrev pub nodesLacking : Room → ℕ
+nodesLacking room = room .nodes-needed - room .nodes-free
 
 -- the nodes that a call needs: a put what document 01 counts, every other call none
 abbrev pub nodesFor : Memory → Call → ℕ
@@ -112,15 +125,20 @@ OfBytes (kth k) = Unit {0}
 
 -- ---- what a put lacks, what it takes, and what a removal frees, where memory is the tree v
 
--- no cell is free, or fewer nodes are free than a put of this key needs
-abbrev pub TooFew : Memory → Layers → List ℕ → Type 0
-TooFew m v key = (freeCells (m .cells) (cellsOf m) ≡ []) ⊎ (length (freeNodes (m .nodes) (nodesOf m)) < neededNodes m v key)
-
--- all that a put of this key lacks is room: the key is of 256 bytes at most, and it is new
-pub record LacksRoom (m : Memory) (v : Layers) (key : List ℕ) : Type 0 where
+-- a put of this key lacks a cell: the key is of 256 bytes at most, it is new, and no cell is free
+pub record NoCell (m : Memory) (v : Layers) (key : List ℕ) : Type 0 where
   pub short : length key ≤ 256
   pub new : lookup bytewise key (listing m v) ≡ none
-  pub too-few : TooFew m v key
+  pub no-cell : freeCells (m .cells) (cellsOf m) ≡ []
+
+-- a put of this key lacks n nodes and nothing else: the key is of 256 bytes at most, it is new, a cell is free, n is not 0, and n nodes
+-- more are needed than are free
+pub record FewNodes (m : Memory) (v : Layers) (key : List ℕ) (n : ℕ) : Type 0 where
+  pub short : length key ≤ 256
+  pub new : lookup bytewise key (listing m v) ≡ none
+  pub cell-free : 1 ≤ length (freeCells (m .cells) (cellsOf m))
+  pub not-none : 1 ≤ n
+  pub lacking : length (freeNodes (m .nodes) (nodesOf m)) + n ≡ neededNodes m v key
 
 -- a put of this key with frame number x took the lowest free nodes, as many as it needs, and the lowest free cell: the key and x stand in
 -- it, and every other cell is as it was

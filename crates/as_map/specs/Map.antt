@@ -1,6 +1,6 @@
 -- The same calls on a sorted map from keys to frame numbers.
 use Prim.Native.Nat.{ℕ}
-use mathlib.Core.Bool.{cond}
+use mathlib.Core.Bool.{cond, _&&_}
 use mathlib.Core.List.{List, [], _∷_}
 use mathlib.Core.Option.{Option, none, some}
 use lib.Dec.{leb}
@@ -8,7 +8,8 @@ use lib.ListN.{length}
 use Rattle.order.specs.Bytes.{bytewise}
 use Rattle.order.specs.Map as map
 use Rattle.order.specs.Map.{Map}
-use Rattle.as_map.specs.Calls.{Call, clear, put, find, remove, kth, Heard, done, frame, entry, refused, Room, enough}
+use Rattle.as_map.specs.Calls.{Call, clear, put, find, remove, kth, Heard, done, frame, entry, refusal, refused}
+use Rattle.as_map.specs.Calls.{Room, cellFree, nodesEnough, nodesLacking}
 
 -- f of the value that is there, else z
 abbrev pub whether : {A B : Type 0} → B → (A → B) → Option A → B
@@ -19,11 +20,15 @@ whether z f (some a) = f a
 abbrev pub ofLength : {A : Type 0} → List ℕ → A → A → A
 ofLength key long short = cond (leb (length key) 256) short long
 
+-- what a put of a new key hears of its room: 13 where no cell is free, 14 with the number lacking where nodes are too few
+abbrev pub roomSaid : Room → Heard
+roomSaid room = cond (cellFree room) (cond (nodesEnough room) done (refusal 14 (nodesLacking room ∷ []))) (refused 13)
+
 -- what a sorted map says to a call that finds this room
 abbrev pub mapSays : Room → Map → Call → Heard
 mapSays room xs clear = done
 mapSays room xs (put key x) =
-    ofLength key (refused 7) (whether (cond (enough room) done (refused 13)) (λ y. refused 11) (map.lookup bytewise key xs))
+    ofLength key (refused 7) (whether (roomSaid room) (λ y. refused 11) (map.lookup bytewise key xs))
 mapSays room xs (find key) = ofLength key (refused 7) (whether (refused 12) frame (map.lookup bytewise key xs))
 mapSays room xs (remove key) = ofLength key (refused 7) (whether (refused 12) (λ y. done) (map.lookup bytewise key xs))
 mapSays room xs (kth k) = whether (refused 12) (λ e. entry (e .0) (e .1)) (map.kth k xs)
@@ -32,7 +37,8 @@ mapSays room xs (kth k) = whether (refused 12) (λ e. entry (e .0) (e .1)) (map.
 abbrev pub mapLeft : Room → Map → Call → Map
 mapLeft room xs clear = []
 mapLeft room xs (put key x) =
-    ofLength key xs (whether (cond (enough room) (map.insert bytewise key x xs) xs) (λ y. xs) (map.lookup bytewise key xs))
+    ofLength key xs
+    (whether (cond (cellFree room && nodesEnough room) (map.insert bytewise key x xs) xs) (λ y. xs) (map.lookup bytewise key xs))
 mapLeft room xs (find key) = xs
 mapLeft room xs (remove key) = ofLength key xs (map.delete bytewise key xs)
 mapLeft room xs (kth k) = xs

@@ -4,15 +4,15 @@
 -- That every call ends on any input needs no statement here: each function is proved to end, and no call of the table
 -- requires anything. Below, each kind of call is listed with its rules, as in document 01's table: `4 unless leb n w` gives 4 unless
 -- n ≤ W. `AsRuled rules values back answer` says: where no rule applies the answer is accepted with the values; else its number
--- is the lowest that applies, and what was given comes back. `KeepsMemory` adds, for calls on lent memory, that a refused call leaves
--- every word and byte as it was.
+-- is the lowest that applies, and what was given comes back, behind the numbers that the refusal tells (`telling`; most tell none).
+-- `KeepsMemory` adds, for calls on lent memory, that a refused call leaves every word and byte as it was.
 use Prim.Native.Nat.{ℕ, _+_, _-_, _*_, _/_, _<_, compare}
 use mathlib.Core.Path.{_≡_, subst, sym}
 use mathlib.Core.Bool.{not, _&&_}
 use mathlib.Core.List.{List, [], _∷_}
 use lib.Dec.{leb, ltb}
 use lib.ListN.{length, getD}
-use Rattle.refusal.specs.Answer.{Rule, _unless_}
+use Rattle.refusal.specs.Answer.{Rule, _unless_, _telling_}
 use Rattle.refusal.specs.Exactly.{listedAbove, AsRuled}
 use Rattle.refusal.proofs.Exactly.{as-ruled}
 use Rattle.bank.specs.Bank.{sorted}
@@ -140,8 +140,8 @@ pub clears : (m : Memory) → KeepsMemory (clearRules m) [] m (cleared m)
 unfolding listedAbove
 clears m = record { ruled = subst (AsRuled (clearRules m) [] []) (sym (clear-says m)) (as-ruled tt); kept = clear-kept m }
 
--- ---- the index: what `isTree`, `stored`, `frameOf` and `inKeyOrder` mean on any lent memory stands in Meaning.antt, and `hasRoom` in
--- Demand2.antt
+-- ---- the index: what `isTree`, `stored`, `frameOf` and `inKeyOrder` mean on any lent memory stands in Meaning.antt, and `hasCell`,
+-- `hasNodes` and `lacking` in Demand2.antt
 
 -- Find and the k-th entry change no byte: 7, 10, 12; and 10, 12.
 abbrev pub findRules : Memory → List ℕ → List Rule
@@ -166,10 +166,12 @@ pub removes : (m : Memory) (key : List ℕ) → KeepsMemory (findRules m key) []
 unfolding index.removed listedAbove
 removes m key = record { ruled = as-ruled tt; kept = kept-if-refused (index.removeSaid m key) _ m }
 
--- Put: 7, 10, 11 for a stored key, 13 where more nodes or cells are needed than are free.
+-- Put: 7, 10, 11 for a stored key, 13 where no cell is free, and 14, with the number of nodes lacking, where more nodes are needed than
+-- are free (document 02, A1; document 01 has 13 for both).
 abbrev pub putRules : Memory → List ℕ → List Rule
 putRules m key =
-    (7 unless leb (length key) 256) ∷ (10 unless isTree m) ∷ (11 unless not (index.stored m key)) ∷ (13 unless index.hasRoom m key) ∷ []
+    (7 unless leb (length key) 256) ∷ (10 unless isTree m) ∷ (11 unless not (index.stored m key)) ∷ (13 unless index.hasCell m)
+    ∷ ((14 unless index.hasNodes m key) telling (index.lacking m key ∷ [])) ∷ []
 
 -- Refused, every word and byte is as it was.
 pub puts : (m : Memory) (key : List ℕ) (frame : ℕ) → KeepsMemory (putRules m key) [] m (index.putDone m key frame)

@@ -23,8 +23,8 @@ use Rattle.forest.specs.IsTree.{Layers, IsTree, listing}
 use Rattle.forest.specs.Walk.{isTree}
 use Rattle.model.specs.Calls.{nodesOf, cellsOf}
 use Rattle.puts.specs.Needed.{neededNodes, lentMore}
-use Rattle.as_map.specs.Calls.{Call, clear, put, kth, done, entry, refused, heard, left, answers, leftAfter, OfBytes}
-use Rattle.as_map.specs.Calls.{roomFor, rooms, LacksRoom, Took}
+use Rattle.as_map.specs.Calls.{Call, clear, put, kth, done, entry, refusal, refused, heard, left, answers, leftAfter, OfBytes}
+use Rattle.as_map.specs.Calls.{roomFor, rooms, NoCell, FewNodes, Took}
 use Rattle.as_map.specs.Map.{mapSays, mapLeft, mapAnswers, mapAfter}
 use Rattle.places.proofs.Found as found
 use Rattle.puts.proofs.Needed as needs
@@ -105,12 +105,18 @@ module _ (m : Memory) (v : Layers) (t : IsTree m v) (bytes : Bytes (m .bytes)) (
 -- ---- room, on any lent memory that is a tree v, whatever was called before
 --
 -- `neededNodes m v key` (crates/puts/specs/Needed.antt) counts the nodes as document 01 does: one per split node, one more for a new root
--- of that layer, one per new layer. It is a count on the tree and the keys in its cells alone.
+-- of that layer, one per new layer. It is a count on the tree and the keys in its cells alone. Document 01 gives 13 for too few cells and
+-- for too few nodes; document 02 (A1) has the two apart: 13 for no free cell, 14 for too few nodes, and 13 where both hold.
 
 module _ (m : Memory) (v : Layers) (t : IsTree m v) (bytes : Bytes (m .bytes)) (key : List ℕ) (b : Bytes key) (x : ℕ) where
-  -- 13 is given exactly when the key is new and no cell is free, or fewer nodes are free than are needed.
-  pub room-exactly : (heard m (put key x) ≡ refused 13 → LacksRoom m v key) × (LacksRoom m v key → heard m (put key x) ≡ refused 13)
-  room-exactly = (room.put-lacks m v t bytes key b x, room.lacks-put m v t bytes key b x)
+  -- 13 is given exactly when the key is new and no cell is free.
+  pub no-cell-exactly : (heard m (put key x) ≡ refused 13 → NoCell m v key) × (NoCell m v key → heard m (put key x) ≡ refused 13)
+  no-cell-exactly = (room.put-no-cell m v t bytes key b x, room.no-cell-put m v t bytes key b x)
+
+  -- 14 is given exactly when the key is new, a cell is free, and fewer nodes are free than are needed; n beside it is needed minus free.
+  pub few-nodes-exactly : (n : ℕ) → (heard m (put key x) ≡ refusal 14 (n ∷ []) → FewNodes m v key n)
+      × (FewNodes m v key n → heard m (put key x) ≡ refusal 14 (n ∷ []))
+  few-nodes-exactly n = (room.put-few-nodes m v t bytes key b x n, room.few-nodes-put m v t bytes key b x n)
 
   -- An accepted put takes what is needed: the lowest free nodes, as many as that, and the lowest free cell, in which the key and its frame
   -- number stand then; all other cells are as they were.

@@ -15,12 +15,16 @@ use Rattle.model.specs.Leaves.{freshNode, leafWith, leafSplit}
 use Rattle.model.specs.Internodes.{internodeIn, internodePut, internodeSplit}
 
 module _ (nodes : List ℕ) (count k : ℕ) where
+  -- the lowest free node
+  abbrev fresh : ℕ
+  fresh = freshNode nodes count
+
   -- Sixteen entries in order are cut between two different ikeys, nearest to the middle, on a tie the lower (`IsCut`). The left half keeps
   -- the number of the leaf, the right half takes the lowest free one, and its first ikey goes up with that number.
   pub full-leaf-splits : (es : List Entry) → rising es ≡ true → length es ≡ 16
       → (c : ℕ) × IsCut es c
       × (leafSplit nodes count k es
-      ≡ (putLeaf (putLeaf nodes k (leafWith (take c es))) (freshNode nodes count) (leafWith (drop c es)), Two (ikeyOf es c) (freshNode nodes count)))
+      ≡ (putLeaf (putLeaf nodes k (leafWith (take c es))) fresh (leafWith (drop c es)), Two (ikeyOf es c) fresh))
   unfolding leafSplit
   full-leaf-splits es r l = (cutOf es, cut-is es r l, refl)
 
@@ -37,8 +41,8 @@ module _ (nodes : List ℕ) (count k : ℕ) where
     -- the number of the internode, and the right half takes the lowest free one.
     pub full-internode-splits : internodeSplit nodes count k p ikey child
         ≡ (
-          internodePut (internodePut nodes k (nodeOf (take 8 keys) (take 9 children))) (freshNode nodes count) (nodeOf (drop 9 keys) (drop 9 children)),
-          Two (getD keys 8 0) (freshNode nodes count),
+          internodePut (internodePut nodes k (nodeOf (take 8 keys) (take 9 children))) fresh (nodeOf (drop 9 keys) (drop 9 children)),
+          Two (getD keys 8 0) fresh,
         )
     unfolding internodeSplit splitOf
     full-internode-splits = refl

@@ -1,4 +1,5 @@
-// One node of lent memory changed: an internode here, words and leaves passed on. What a caller must know stands in `requires`; what only a tree has is not required.
+// One node of lent memory changed: an internode here, words and leaves passed on. What a caller must know stands in `requires`; what
+// only a tree has is not required.
 ghost use mathlib.Core.Path.{_≡_};
 ghost use Prim.Native.Nat.{_≤_, _<_};
 ghost use lib.ListN.{length};

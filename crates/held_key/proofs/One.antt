@@ -3,12 +3,12 @@
 -- Assumes nothing.
 use Prim.Native.Nat.{ℕ}
 use mathlib.Core.Path.{_≡_, refl, sym, ap, _∙_}
-use mathlib.Core.Bool.{Bool, true, false, cond}
+use mathlib.Core.Bool.{Bool, true, false}
 use mathlib.Core.List.{List, [], _∷_}
 use lib.Dec.{leb}
 use lib.ListN.{length}
 use denote.Ref.{RefT, now}
-use Rattle.refusal.specs.Answer.{Answer, Rule, accepted, refused, answered, _unless_}
+use Rattle.refusal.specs.Answer.{Answer, accepted, refused, answered, _unless_}
 use Rattle.refusal.specs.declared.Refusal.the-variants as no
 use Rattle.key_layer.specs.Keys.{numbersAt, fits, asked, moved, newSaid}
 use Rattle.keys_held.specs.declared.Keyed.{Keyed}
@@ -23,17 +23,16 @@ pub keyed-slice : (s : RefT (List ℕ)) (said : Answer) (r : Keyed) → r ≡ ke
 keyed-slice s said r e = ap (λ (x : Keyed). x .key .bytes) e
 
 -- of an answer with three numbers, accepted or refused, nothing is lost
-chosen : (s : RefT (List ℕ)) (t : Bool) (x y : Answer) → saidKeyed (keyedOf s x) ≡ x → saidKeyed (keyedOf s y) ≡ y
-    → saidKeyed (keyedOf s (cond t x y)) ≡ cond t x y
-chosen s true x y p q = p
-chosen s false x y p q = q
+three-asked : (s : RefT (List ℕ)) (fit : Bool) (x y z i c a : ℕ)
+    → let said = answered ((7 unless fit) ∷ []) (x ∷ y ∷ z ∷ []) (i ∷ c ∷ a ∷ []) in saidKeyed (keyedOf s said) ≡ said
+three-asked s true x y z i c a = refl
+three-asked s false x y z i c a = refl
 
-three : (s : RefT (List ℕ)) (rules : List Rule) (x y z i c a : ℕ)
-    → saidKeyed (keyedOf s (answered rules (x ∷ y ∷ z ∷ []) (i ∷ c ∷ a ∷ []))) ≡ answered rules (x ∷ y ∷ z ∷ []) (i ∷ c ∷ a ∷ [])
-three s [] x y z i c a = refl
-three s (rule ∷ rules) x y z i c a =
-    chosen s (rule .holds) (answered rules (x ∷ y ∷ z ∷ []) (i ∷ c ∷ a ∷ []))
-    (record { number = rule .number; values = i ∷ c ∷ a ∷ [] }) (three s rules x y z i c a) refl
+three-moved : (s : RefT (List ℕ)) (fit allowed : Bool) (x y z i c a : ℕ)
+    → let said = answered ((7 unless fit) ∷ (8 unless allowed) ∷ []) (x ∷ y ∷ z ∷ []) (i ∷ c ∷ a ∷ []) in saidKeyed (keyedOf s said) ≡ said
+three-moved s true true x y z i c a = refl
+three-moved s true false x y z i c a = refl
+three-moved s false allowed x y z i c a = refl
 
 module _ (s : RefT (List ℕ)) (i c a : ℕ) {r : Keyed} where
   -- `shift`, `shift_by` and `unshift` say what the plain moves say
@@ -41,12 +40,12 @@ module _ (s : RefT (List ℕ)) (i c a : ℕ) {r : Keyed} where
       → saidKeyed r ≡ moved (now s) i c a allowed to
   unfolding moved numbersAt
   moved-said allowed to e =
-      ap saidKeyed e ∙ three s ((7 unless fits (now s) i c a) ∷ (8 unless allowed) ∷ []) _ _ _ i c a
+      ap saidKeyed e ∙ three-moved s (fits (now s) i c a) allowed _ _ _ i c a
 
   -- and `unshift_all` what the plain one says
   pub back-said : r ≡ keyedOf s (asked (now s) i c a (numbersAt (now s) 0)) → saidKeyed r ≡ asked (now s) i c a (numbersAt (now s) 0)
   unfolding asked numbersAt
-  back-said e = ap saidKeyed e ∙ three s ((7 unless fits (now s) i c a) ∷ []) _ _ _ i c a
+  back-said e = ap saidKeyed e ∙ three-asked s (fits (now s) i c a) _ _ _ i c a
 
 module _ (s : RefT (List ℕ)) {r : Keyed} (e : r ≡ keyedOf s (newSaid (now s))) where
   -- a new key has the numbers of layer 0

@@ -2,7 +2,8 @@
 use mathlib.Core.Path.{_≡_, refl, sym, ap, _∙_}
 use mathlib.Core.List.{List}
 use Prim.Native.Nat.{ℕ}
-use Rattle.refusal.proofs.Laws.{number-one}
+use native.Mathlib.Omega.{arith}
+use Rattle.refusal.proofs.Laws.{number-one, not-14}
 use Rattle.refusal.proofs.One.{number-of, value-of, differ}
 use Rattle.arena.specs.declared.Cleared.{Cleared}
 use Rattle.arena.specs.Memory.{Memory, Did, did, cleared, saidCleared}
@@ -22,8 +23,13 @@ use Rattle.index.specs.Answers.{saidAdded, saidRemoved, saidFound, saidL
 
 pub added-one : (x y : Added) → saidAdded x ≡ saidAdded y → x ≡ y
 added-one added-is.Done added-is.Done e = refl
+added-one added-is.Done (added-is.TooFewNodes k) e = absurd (let z : 0 ≡ 14 = number-of e in omega arith)
 added-one added-is.Done (added-is.Refused r) e = absurd (differ r (number-of e))
+added-one (added-is.TooFewNodes n) added-is.Done e = absurd (let z : 14 ≡ 0 = number-of e in omega arith)
+added-one (added-is.TooFewNodes n) (added-is.TooFewNodes k) e = ap added-is.TooFewNodes (value-of 0 e)
+added-one (added-is.TooFewNodes n) (added-is.Refused r) e = absurd (not-14 r (number-of e))
 added-one (added-is.Refused r) added-is.Done e = absurd (differ r (sym (number-of e)))
+added-one (added-is.Refused r) (added-is.TooFewNodes k) e = absurd (not-14 r (sym (number-of e)))
 added-one (added-is.Refused r) (added-is.Refused q) e = ap added-is.Refused (number-one r q (number-of e))
 
 pub removed-one : (x y : Removed) → saidRemoved x ≡ saidRemoved y → x ≡ y

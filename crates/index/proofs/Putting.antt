@@ -5,18 +5,22 @@ use mathlib.Core.List.{List, [], _∷_}
 use Prim.Native.Nat.{ℕ, _≤_, _<_}
 use denote.Enum.Declared.{tagOf}
 use types.Run.{OneOf}
+use native.Mathlib.Omega.{arith}
+use lib.Dec.{leb}
 use borrow.Author.Tests.{le-leb, lt-leb}
 use lib.ListN.{length, getD}
 use Rattle.refusal.specs.Answer.{accepted, refused}
 use Rattle.refusal.specs.declared.Refusal.the-variants as no
-use Rattle.arena.specs.Memory.{memory, did}
+use Rattle.arena.specs.Free.{freeNodes}
+use Rattle.arena.specs.Memory.{memory, nodeCount, did}
 use Rattle.forest.specs.Walk.{isTree}
 use Rattle.model.specs.declared.Met.{Met}
 use Rattle.model.specs.declared.Met.the-variants.{Stored}
 use Rattle.model.specs.Meet.{meet}
-use Rattle.model.specs.Calls.{putDone}
+use Rattle.model.specs.Calls.{neededAt, putDone}
 use Rattle.model.proofs.Met as met-type
-use Rattle.store.specs.Places.{roomAt, withAt}
+use Rattle.store.specs.Places.{hasCellIn, lackingAt, withAt}
+use Rattle.index.specs.Answers.{tooFewNodes}
 use Rattle.index.proofs.Lent.{tag-other}
 
 module _ (nodes cells bytes key : List ℕ) (frame : ℕ) where
@@ -35,12 +39,27 @@ module _ (nodes cells bytes key : List ℕ) (frame : ℕ) where
       unfolding putDone
       put-stored q = rw (le-leb (length key) 256 s, ← e, y, ← w, q)
 
-      module _ (h : OneOf (1 ∷ 2 ∷ []) (tagOf met-type.the-type r)) {room : Bool} (d : room ≡ roomAt (memory nodes cells bytes) key r) where
-        pub put-full : room ≡ false → did (refused no.Room []) (memory nodes cells bytes) ≡ putDone (memory nodes cells bytes) key frame
+      module _ (h : OneOf (1 ∷ 2 ∷ []) (tagOf met-type.the-type r)) {cell : Bool} (d : cell ≡ hasCellIn cells) where
+        pub put-no-cell : cell ≡ false → did (refused no.Room []) (memory nodes cells bytes) ≡ putDone (memory nodes cells bytes) key frame
         unfolding putDone
-        put-full f = rw (le-leb (length key) 256 s, ← e, y, ← w, tag-other r h, ← d, f)
+        put-no-cell f = rw (le-leb (length key) 256 s, ← e, y, ← w, tag-other r h, ← d, f)
 
-        pub put-new : {n1 c1 b1 : List ℕ} → room ≡ true → memory n1 c1 b1 ≡ withAt (memory nodes cells bytes) key frame r
-            → did (accepted []) (memory n1 c1 b1) ≡ putDone (memory nodes cells bytes) key frame
-        unfolding putDone
-        put-new f g = rw (le-leb (length key) 256 s, ← e, y, ← w, tag-other r h, ← d, f) (ap (did (accepted [])) g)
+        module _ (f : cell ≡ true) {n : ℕ} (l : n ≡ lackingAt (memory nodes cells bytes) key r) where
+          abbrev need : ℕ
+          need = neededAt (memory nodes cells bytes) key r
+
+          abbrev free : ℕ
+          free = length (freeNodes nodes (nodeCount (length nodes)))
+
+          pub put-few-nodes : 0 < n → did (tooFewNodes n) (memory nodes cells bytes) ≡ putDone (memory nodes cells bytes) key frame
+          unfolding putDone
+          put-few-nodes g =
+              let few : leb need free ≡ false = lt-leb need free (omega arith) in
+              rw (le-leb (length key) 256 s, ← e, y, ← w, tag-other r h, ← d, f, few, ← l)
+
+          pub put-new : {n1 c1 b1 : List ℕ} → n ≤ 0 → memory n1 c1 b1 ≡ withAt (memory nodes cells bytes) key frame r
+              → did (accepted []) (memory n1 c1 b1) ≡ putDone (memory nodes cells bytes) key frame
+          unfolding putDone
+          put-new z g =
+              let enough : leb need free ≡ true = le-leb need free (omega arith) in
+              rw (le-leb (length key) 256 s, ← e, y, ← w, tag-other r h, ← d, f, enough) (ap (did (accepted [])) g)

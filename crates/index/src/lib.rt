@@ -22,6 +22,8 @@ const LONGEST: usize = CELL_BYTES;
 // What a put answers.
 pub enum Added {
     Done,
+    // 14: so many nodes fewer are free than the put needs
+    TooFewNodes(u64),
     Refused(Refusal),
 }
 
@@ -44,8 +46,12 @@ pub fn put(nodes: &mut [u64], cells: &mut [u64], bytes: &mut [u8], key: &[u8], f
     } = met {
         return Added::Refused(Refusal::Stored);
     }
-    if !store::inside::has_room(nodes, cells, bytes, key, met) {
+    if !store::inside::has_cell(cells) {
         return Added::Refused(Refusal::Room);
+    }
+    let lacking = store::inside::lacking(nodes, cells, bytes, key, met);
+    if 0 < lacking {
+        return Added::TooFewNodes(lacking as u64);
     }
     store::inside::put_new(nodes, cells, bytes, key, frame, met);
     Added::Done

@@ -1,7 +1,9 @@
 -- What each case of an answer of the index leaves for C: an accepted one its values, a refused one its number alone. Assumes nothing.
 use Prim.Native.Nat.{ℕ}
 use mathlib.Core.Path.{_≡_, refl, sym, subst, ap, _∙_}
-use mathlib.Core.List.{[], _∷_}
+use mathlib.Core.Bool.{Bool, true, false, cond}
+use mathlib.Core.List.{List, [], _∷_}
+use lib.Dec.{eqb}
 use Rattle.refusal.specs.declared.Refusal.{Refusal}
 use Rattle.refusal.specs.Refusals.{numberOf}
 use Rattle.refusal.specs.Answer.{Answer}
@@ -25,6 +27,7 @@ use Rattle.index.specs.Answers.{saidAdded, saidRemoved, saidFound, saidListed}
 use Rattle.crossing.specs.Crossing.{Crossed}
 use Rattle.crossing.proofs.Crosses.{refusal-crosses}
 use Rattle.index_crossing.specs.Lent.{CrossedLent}
+use Rattle.index_crossing.specs.Told.{CrossedTold, CrossedLentTold}
 
 -- an answer with memory behind it crosses as what was done
 pub done-crosses : {a : Answer} {m : Memory} {d : Did} {r : ℕ} → did a m ≡ d → Crossed a r [] [] → CrossedLent d r m
@@ -43,13 +46,35 @@ module _ {answer : Cleared} where
       Crossed (saidCleared answer) r [] []
   cleared-refused {why} e n = rw e (refusal-crosses why [] [] n)
 
-module _ {answer : Added} where
-  pub added-done : answer ≡ added-is.Done → Crossed (saidAdded answer) 0 [] []
-  added-done e = rw e (record { number = refl; lent = refl })
+-- an answer that tells, with memory behind it, crosses as what was done
+pub told-crosses : {a : Answer} {m : Memory} {d : Did} {r : ℕ} {before after : List ℕ} → did a m ≡ d → CrossedTold a r before after →
+    CrossedLentTold d r m before after
+told-crosses {a} {m} {r = r} {before = before} {after = after} e h =
+    subst (λ (x : Did). CrossedLentTold x r m before after) e (record { number = h .number; lent = refl; told = h .told })
+
+-- what was done leaves one outcome: what is returned, the lent memory, and what stands in the numbers lent for what is told
+pub one-told-outcome : {d : Did} {r r′ : ℕ} {m m′ : Memory} {before after after′ : List ℕ} → CrossedLentTold d r m before after →
+    CrossedLentTold d r′ m′ before after′ → (r ≡ r′) × (m ≡ m′) × (after ≡ after′)
+one-told-outcome h h′ = (h .number ∙ sym (h′ .number), h .lent ∙ sym (h′ .lent), h .told ∙ sym (h′ .told))
+
+-- a refusal that tells nothing leaves what was lent
+nothing-told : (why : Refusal) (before : List ℕ) → before ≡ cond (eqb (numberOf why) 0) before before
+nothing-told why before = by (eqb (numberOf why) 0)
+  where
+    by : (b : Bool) → before ≡ cond b before before
+    by true = refl
+    by false = refl
+
+module _ {answer : Added} {before : ℕ} where
+  pub added-done : answer ≡ added-is.Done → CrossedTold (saidAdded answer) 0 (before ∷ []) (before ∷ [])
+  added-done e = rw e (record { number = refl; told = refl })
+
+  pub added-few : {lacking : ℕ} → answer ≡ added-is.TooFewNodes lacking → CrossedTold (saidAdded answer) 14 (before ∷ []) (lacking ∷ [])
+  added-few e = rw e (record { number = refl; told = refl })
 
   pub added-refused : {why : Refusal} {r : ℕ} → answer ≡ added-is.Refused why → r ≡ numberOf why →
-      Crossed (saidAdded answer) r [] []
-  added-refused {why} e n = rw e (refusal-crosses why [] [] n)
+      CrossedTold (saidAdded answer) r (before ∷ []) (before ∷ [])
+  added-refused {why} e n = rw e (record { number = n; told = nothing-told why (before ∷ []) })
 
 module _ {answer : Removed} where
   pub removed-done : answer ≡ removed-is.Done → Crossed (saidRemoved answer) 0 [] []

@@ -4,6 +4,7 @@ ghost use Rattle.arena.specs.Memory.{saidCleared, saidMeasured};
 ghost use Rattle.audit.specs.Audit.{saidAudited};
 ghost use Rattle.index.specs.Answers.{saidAdded, saidRemoved, saidFound, saidListed};
 ghost use Rattle.crossing.specs.Crossing.{Crossed};
+ghost use Rattle.index_crossing.specs.Told.{CrossedTold};
 use arena::Cleared;
 use arena::Measured;
 use audit::Audited;
@@ -22,12 +23,16 @@ pub fn give_cleared(answer: Cleared) -> u64
     }
 }
 
-// 0 for a key that was put, or the number of the refusal.
-pub fn give_added(answer: Added) -> u64
-    ensures { λ r. ⌜ Crossed (saidAdded answer) r [] [] ⌝ }
+// 0 for a key that was put, or the number of the refusal; with 14 the number of nodes lacking is written.
+pub fn give_added(answer: Added, lacking: &mut u64) -> u64
+    ensures { λ r. ⌜ CrossedTold (saidAdded answer) r (now (lacking .entry) ∷ []) (now (lacking .exit) ∷ []) ⌝ }
 {
     match answer {
         Added::Done => 0,
+        Added::TooFewNodes(n) => {
+            *lacking = n;
+            14
+        }
         Added::Refused(why) => refusal::number(why),
     }
 }

@@ -51,6 +51,11 @@ module _ {m after : Memory} {out written : List ℕ} {r : ℕ} where
     unfolding left unlessRefused
     put-ok d t = record { leaves = ap (λ (d : Did). d .after) e; prints = rw (← put-said m after key frame x e, d) t }
 
+    pub put-few-nodes : {n : ℕ} → x ≡ added-is.TooFewNodes n → Typed out 0 (refusedLine 14) r written
+        → Answered m (put key frame) out r after written
+    unfolding left unlessRefused
+    put-few-nodes d t = record { leaves = ap (λ (d : Did). d .after) e; prints = rw (← put-said m after key frame x e, d) t }
+
     pub put-refused : {why : Refusal} → x ≡ added-is.Refused why → Typed out 0 (refusedLine (numberOf why)) r written → Answered m (put key frame) out r after written
     unfolding left unlessRefused
     put-refused {why} d t =

@@ -49,8 +49,8 @@ shown-unless : (a : Answer) (tell : List ℕ → Heard) → shown (heardOf a tel
 unfolding unlessRefused
 shown-unless a tell = by-test (eqb (a .number) 0)
   where
-    by-test : (b : Bool) → shown (cond b (tell (a .values)) (calls.refused (a .number)))
-        ≡ cond b (shown (tell (a .values))) (shown (calls.refused (a .number)))
+    by-test : (b : Bool) → shown (cond b (tell (a .values)) (calls.refusal (a .number) (a .values)))
+        ≡ cond b (shown (tell (a .values))) (shown (calls.refusal (a .number) (a .values)))
     by-test true = refl
     by-test false = refl
 

@@ -16,6 +16,9 @@ digits-room {n} h = decimal-short 19 n (omega arith)
 pub refused-room : {n l : ℕ} → n < 2 ^ 64 → 100 ≤ l → 0 + length (refusedLine n) ≤ l
 refused-room {n} h k = omega (arith, digits-room h, refused-length n)
 
+pub few-nodes-room : {l : ℕ} → 100 ≤ l → 0 + length (refusedLine 14) ≤ l
+few-nodes-room k = refused-room (omega arith) k
+
 pub number-room : {n l : ℕ} → n < 2 ^ 64 → 100 ≤ l → 0 + length (numberLine n) ≤ l
 number-room {n} h k = omega (arith, digits-room h, number-length n)
 

@@ -5,7 +5,7 @@ use mathlib.Core.List.{List, [], _∷_}
 use lib.Dec.{leb, ltb, eqb}
 use lib.ListN.{length, getD, set}
 use Rattle.memory_layout.specs.Numbers.{classesFrom, cellBytes}
-use Rattle.refusal.specs.Answer.{Answer, Rule, _unless_, answered}
+use Rattle.refusal.specs.Answer.{Answer, Rule, _unless_, _telling_, answered}
 use Rattle.arena.specs.Layout.{nodeStart, rootOf, markAt, frameAt, keyAt, putCell, putKey, freedCell, freedKey}
 use Rattle.arena.specs.Free.{freeNodes, freeCells}
 use Rattle.arena.specs.Memory.{Memory, memory, nodeCount, cellCount, Did, did}
@@ -109,10 +109,21 @@ neededAt m key (Missing holder root links) =
 abbrev pub needed : Memory → List ℕ → ℕ
 needed m key = neededAt m key (place m key)
 
--- nodes and cells enough are free
+-- a cell is free
+abbrev pub hasCell : Memory → Bool
+hasCell m = leb 1 (length (freeCells (m .cells) (cellsOf m)))
+
+-- as many nodes are free as a put of this key needs
+abbrev pub hasNodes : Memory → List ℕ → Bool
+hasNodes m key = leb (needed m key) (length (freeNodes (m .nodes) (nodesOf m)))
+
+-- a cell is free, and nodes enough are
 abbrev pub hasRoom : Memory → List ℕ → Bool
-hasRoom m key =
-    leb 1 (length (freeCells (m .cells) (cellsOf m))) && leb (needed m key) (length (freeNodes (m .nodes) (nodesOf m)))
+hasRoom m key = hasCell m && hasNodes m key
+
+-- the nodes that a put of this key lacks: those that it needs less those that are free
+abbrev pub lacking : Memory → List ℕ → ℕ
+lacking m key = needed m key - length (freeNodes (m .nodes) (nodesOf m))
 
 -- the lowest free cell
 abbrev pub freshCell : Memory → ℕ
@@ -139,9 +150,13 @@ with m key frame =
     (putCell (m .cells) (freshCell m) (length key) frame)
     (putKey (m .bytes) (freshCell m) key)
 
--- put: 11 if the key is stored, 13 unless nodes and cells enough are free
+-- put: 11 if the key is stored, 13 unless a cell is free, 14 unless nodes enough are, with the number of nodes lacking
 abbrev pub putSaid : Memory → List ℕ → Answer
-putSaid m key = answered (keyRules m key ((11 unless not (stored m key)) ∷ (13 unless hasRoom m key) ∷ [])) [] []
+putSaid m key =
+    answered
+    (keyRules m key
+    ((11 unless not (stored m key)) ∷ (13 unless hasCell m) ∷ ((14 unless hasNodes m key) telling (lacking m key ∷ [])) ∷ []))
+    [] []
 
 -- what put answers, and the memory that it leaves
 unfoldable pub putDone : Memory → List ℕ → ℕ → Did

@@ -27,6 +27,11 @@ fn frame(text: &[u8]) -> u64 {
     hex::sixteen(text, 3)
 }
 
+// The other number of the line: the k of a k-th entry, or the nodes that a put lacks.
+fn other(text: &[u8]) -> u64 {
+    hex::sixteen(text, 19)
+}
+
 // How many nodes a new memory has.
 pub(crate) fn nodes_of(text: &[u8]) -> usize {
     hex::four(text, 23) as usize
@@ -77,7 +82,7 @@ fn says(nodes: &mut [u64], cells: &mut [u64], bytes: &mut [u8], key: &[u8], text
         return cleared_number(index::clear(nodes, cells, bytes)) == number(text);
     }
     if which == b'p' {
-        return put_number(index::put(nodes, cells, bytes, key, frame(text))) == number(text);
+        return put(index::put(nodes, cells, bytes, key, frame(text)), text);
     }
     if which == b'd' {
         return removed_number(index::remove(nodes, cells, bytes, key)) == number(text);
@@ -87,7 +92,7 @@ fn says(nodes: &mut [u64], cells: &mut [u64], bytes: &mut [u8], key: &[u8], text
     }
     reached(
         bytes,
-        index::kth(nodes, cells, bytes, hex::sixteen(text, 19)),
+        index::kth(nodes, cells, bytes, other(text)),
         key,
         text,
     )
@@ -101,11 +106,12 @@ fn cleared_number(answer: Cleared) -> u64 {
     }
 }
 
-// The number that a put answers: 0, or that of its refusal.
-fn put_number(answer: Added) -> u64 {
+// Whether a put says what the line has; of 14 also how many nodes are lacking.
+fn put(answer: Added, text: &[u8]) -> bool {
     match answer {
-        Added::Done => 0,
-        Added::Refused(why) => refusal::number(why),
+        Added::Done => number(text) == 0,
+        Added::TooFewNodes(lacking) => number(text) == 14 && lacking == other(text),
+        Added::Refused(why) => refusal::number(why) == number(text),
     }
 }
 

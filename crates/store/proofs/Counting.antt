@@ -1,12 +1,11 @@
--- What a put needs and whether there is room: a law for each way in which the code returns. Assumes nothing.
-use mathlib.Core.Path.{_≡_, ap, _∙_}
-use mathlib.Core.Bool.{true, false}
+-- What a put needs and lacks, and whether a cell is free: a law for each way in which the code returns. Assumes nothing.
+use mathlib.Core.Path.{_≡_, refl, ap, _∙_}
 use mathlib.Core.List.{List}
 use Prim.Native.Nat.{ℕ, _+_, _*_, _-_, _/_, _≤_, _<_}
 use native.Mathlib.Numerals.{add-one}
 use native.Mathlib.Omega.{arith}
 use borrow.Author.Needs.{needs}
-use borrow.Author.Tests.{le-leb, lt-leb}
+use lib.Dec.{leb}
 use lib.ListN.{length}
 use Rattle.order.specs.Layer.{ikeyAt}
 use Rattle.arena.specs.Layout.{keyAt}
@@ -19,7 +18,7 @@ use Rattle.model.specs.Needed.{needIn, layersOf}
 use Rattle.model.specs.Grow.{entryFor}
 use Rattle.model.specs.Calls.{neededAt}
 use Rattle.seek.specs.Lengths.{NodesLent}
-use Rattle.store.specs.Places.{roomAt, Lent}
+use Rattle.store.specs.Places.{hasCellIn, lackingAt, Lent}
 
 -- the node count by the code's own division
 pub counted : (n : ℕ) → NodesLent n → n / 47 ≡ nodeCount n
@@ -37,21 +36,20 @@ module _ (nodes cells bytes key : List ℕ) {met : Met} where
   unfolding entryFor
   need-missing q h i e = rw (q, e, h, i)
 
--- ---- room
+-- ---- what is free
 
-module _ (nodes cells bytes key : List ℕ) (met : Met) {f : ℕ} (e : f ≡ length (freeCells cells (length cells / 2))) where
-  pub room-no-cell : f < 1 → false ≡ roomAt (memory nodes cells bytes) key met
-  room-no-cell h = rw (← e, lt-leb 1 f h)
+pub cell-free : (cells : List ℕ) {f : ℕ} → f ≡ length (freeCells cells (length cells / 2)) → leb 1 f ≡ hasCellIn cells
+cell-free cells e = rw e
 
-  module _ (l : Lent nodes cells bytes met) (h : 1 ≤ f) {g need : ℕ} (eg : g ≡ length (freeNodes nodes (length nodes / 47)))
-      (en : need ≡ neededAt (memory nodes cells bytes) key met) where
-    free : g ≡ length (freeNodes nodes (nodeCount (length nodes)))
-    free = eg ∙ ap (λ (n : ℕ). length (freeNodes nodes n)) (counted (length nodes) (l .nodes-lent))
+module _ (nodes cells bytes key : List ℕ) (met : Met) (l : Lent nodes cells bytes met) {g need : ℕ}
+    (eg : g ≡ length (freeNodes nodes (length nodes / 47))) (en : need ≡ neededAt (memory nodes cells bytes) key met) where
+  free : g ≡ length (freeNodes nodes (nodeCount (length nodes)))
+  free = eg ∙ ap (λ (n : ℕ). length (freeNodes nodes n)) (counted (length nodes) (l .nodes-lent))
 
-    pub room-no-node : g < need → false ≡ roomAt (memory nodes cells bytes) key met
-    room-no-node d = rw (← e, le-leb 1 f h, ← en, ← free, lt-leb need g d)
+  pub none-lacking : need ≤ g → 0 ≡ lackingAt (memory nodes cells bytes) key met
+  none-lacking d = rw (← en, ← free) (omega arith)
 
-    pub room-so : need ≤ g → true ≡ roomAt (memory nodes cells bytes) key met
-    room-so d = rw (← e, le-leb 1 f h, ← en, ← free, le-leb need g d)
+  pub some-lacking : g < need → need - g ≡ lackingAt (memory nodes cells bytes) key met
+  some-lacking d = rw (← en, ← free) refl
 
-pub ruleset counting = (needs, need-conflict, need-missing, room-no-cell, room-no-node, room-so)
+pub ruleset counting = (needs, need-conflict, need-missing, cell-free, none-lacking, some-lacking)

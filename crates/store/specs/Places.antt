@@ -1,6 +1,6 @@
 -- What a put counts and writes at the place that a key has met.
-use Prim.Native.Nat.{ℕ, _≤_}
-use mathlib.Core.Bool.{Bool, _&&_}
+use Prim.Native.Nat.{ℕ, _-_, _≤_}
+use mathlib.Core.Bool.{Bool}
 use mathlib.Core.List.{List}
 use lib.Dec.{leb}
 use lib.ListN.{length}
@@ -8,14 +8,17 @@ use Rattle.arena.specs.Layout.{putCell, putKey}
 use Rattle.arena.specs.Free.{freeNodes, freeCells}
 use Rattle.arena.specs.Memory.{Memory, memory, nodeCount, cellCount}
 use Rattle.model.specs.declared.Met.{Met}
-use Rattle.model.specs.Calls.{nodesOf, cellsOf, neededAt, freshCell, nodesWith}
+use Rattle.model.specs.Calls.{nodesOf, neededAt, freshCell, nodesWith}
 use Rattle.seek.specs.Lengths.{NodesLent, CellsLent}
 use Rattle.seek.specs.Within.{Within}
 
--- a cell is free, and nodes enough for a key at this place
-abbrev pub roomAt : Memory → List ℕ → Met → Bool
-roomAt m key met =
-    leb 1 (length (freeCells (m .cells) (cellsOf m))) && leb (neededAt m key met) (length (freeNodes (m .nodes) (nodesOf m)))
+-- one of these cells is free
+abbrev pub hasCellIn : List ℕ → Bool
+hasCellIn cells = leb 1 (length (freeCells cells (cellCount (length cells))))
+
+-- the nodes that a put lacks for a key at this place: those that it needs less those that are free
+abbrev pub lackingAt : Memory → List ℕ → Met → ℕ
+lackingAt m key met = neededAt m key met - length (freeNodes (m .nodes) (nodesOf m))
 
 -- memory with a new key at this place, and its frame number
 abbrev pub withAt : Memory → List ℕ → ℕ → Met → Memory

@@ -12,7 +12,7 @@ ghost use Rattle.forest.specs.Nodes.{slotsAt};
 ghost use Rattle.model.specs.Meet.{numberWord};
 ghost use Rattle.model.specs.Calls.{neededAt, nodesWith};
 ghost use Rattle.seek.specs.Lengths.{NodesLent, CellsLent};
-ghost use Rattle.store.specs.Places.{roomAt, withAt, Lent};
+ghost use Rattle.store.specs.Places.{hasCellIn, lackingAt, withAt, Lent};
 use arena::inside::Lowest;
 use memory_layout::CELL_BYTES;
 use memory_layout::CELL_WORDS;
@@ -86,19 +86,24 @@ fn needed(nodes: &[u64], cells: &[u64], bytes: &[u8], key: &[u8], met: Met) -> u
     }
 }
 
-// Whether a cell is free, and nodes enough.
-pub fn has_room(nodes: &[u64], cells: &[u64], bytes: &[u8], key: &[u8], met: Met) -> bool
-    requires { ⌜ Lent (now nodes) (now cells) (now bytes) met ⌝ }
-    ensures { λ r. ⌜ r ≡ roomAt (memory (now (nodes .entry)) (now (cells .entry)) (now (bytes .entry))) (now (key .entry)) met ⌝ }
+// Whether a cell is free.
+pub fn has_cell(cells: &[u64]) -> bool
+    ensures { λ r. ⌜ r ≡ hasCellIn (now (cells .entry)) ⌝ }
 {
-    if arena::inside::free_cells(cells, cells.len() / CELL_WORDS) < 1 {
-        return false;
-    }
+    1 <= arena::inside::free_cells(cells, cells.len() / CELL_WORDS)
+}
+
+// How many nodes a put lacks at the place that its key has met; 0 where as many are free as it needs.
+pub fn lacking(nodes: &[u64], cells: &[u64], bytes: &[u8], key: &[u8], met: Met) -> usize
+    requires { ⌜ Lent (now nodes) (now cells) (now bytes) met ⌝ }
+    ensures { λ r. ⌜ r ≡ lackingAt (memory (now (nodes .entry)) (now (cells .entry)) (now (bytes .entry))) (now (key .entry)) met ⌝ }
+{
     let free = arena::inside::free_nodes(nodes, nodes.len() / NODE_WORDS);
-    if free < needed(nodes, cells, bytes, key, met) {
-        return false;
+    let need = needed(nodes, cells, bytes, key, met);
+    if need <= free {
+        return 0;
     }
-    true
+    need - free
 }
 
 // Turns the entry at a position of a leaf into a link, and tells which word holds its number.

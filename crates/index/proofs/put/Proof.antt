@@ -2,7 +2,7 @@
 use borrow.Author.Tests.{not-true, not-false}
 use borrow.Author.Needs.{needs}
 use Rattle.index.proofs.Lent.{tree-root, tree-seek, tree-lent}
-use Rattle.index.proofs.Putting.{put-long, put-unfit, put-stored, put-full, put-new}
+use Rattle.index.proofs.Putting.{put-long, put-unfit, put-stored, put-no-cell, put-few-nodes, put-new}
 use Rattle.index.proofs.put.Statement.{statement}
 use Rattle.index.proofs.put.Tie as tie
 
@@ -29,36 +29,47 @@ returns-3 c =
     put-stored _ _ _ _ _ (s .before .before .before .before .before .if1 .left) (s .before .is-tree .ensures)
     (not-false _ (s .if2 .left)) _ (g .before .seek .ensures .0) (c .enum-told .given .1)
 
-has-room-requires : tie.Need-has-room-requires
-has-room-requires c κs =
+returns-4 : tie.Need-returns-4
+returns-4 c =
     let g = c .before .before .before in
+    let s = g .before .before .before .before .before in
+    put-no-cell _ _ _ _ _ (s .before .before .before .before .before .if1 .left) (s .before .is-tree .ensures)
+    (not-false _ (s .if2 .left)) _ (g .before .seek .ensures .0) (g .match .keys2)
+    (c .before .has-cell .ensures) (not-true _ (c .if3 .taken))
+
+lacking-requires : tie.Need-lacking-requires
+lacking-requires c κs =
+    let g = c .before .before .before .before .before .before in
     let s = g .before .before .before .before .before in
     tree-lent _ _ _ (s .before .is-tree .ensures) (not-false _ (s .if2 .left)) (g .before .seek .ensures .1)
 
-returns-4 : tie.Need-returns-4
-returns-4 c =
-    let g = c .before .before .before .before .before in
+returns-5 : tie.Need-returns-5
+returns-5 c =
+    let f = c .before .before .before .before .before in
+    let g = f .before .before .before in
     let s = g .before .before .before .before .before in
-    put-full _ _ _ _ _ (s .before .before .before .before .before .if1 .left) (s .before .is-tree .ensures)
+    put-few-nodes _ _ _ _ _ (s .before .before .before .before .before .if1 .left) (s .before .is-tree .ensures)
     (not-false _ (s .if2 .left)) _ (g .before .seek .ensures .0) (g .match .keys2)
-    (c .before .has-room .ensures) (not-true _ (c .if3 .taken))
+    (f .before .has-cell .ensures) (not-false _ (f .if3 .left)) (c .before .lacking .ensures) (c .if4 .taken)
 
 put-new-requires : tie.Need-put-new-requires
 put-new-requires c κs =
-    let g = c .before .before .before .before .before .before .before .before in
+    let g = c .before .before .before .before .before .before .before .before .before .before .before in
     let s = g .before .before .before .before .before in (
       tree-lent _ _ _ (s .before .is-tree .ensures) (not-false _ (s .if2 .left)) (g .before .seek .ensures .1),
       s .before .before .before .before .before .if1 .left,
     )
 
-returns-5 : tie.Need-returns-5
-returns-5 c =
-    let f = c .before .before .before .before .before .before .before .before .before .before in
-    let g = f .before .before .before .before .before in
+returns-6 : tie.Need-returns-6
+returns-6 c =
+    let l = c .before .before .before .before .before .before .before .before .before .before in
+    let f = l .before .before .before .before .before in
+    let g = f .before .before .before in
     let s = g .before .before .before .before .before in
     put-new _ _ _ _ _ (s .before .before .before .before .before .if1 .left) (s .before .is-tree .ensures)
     (not-false _ (s .if2 .left)) _ (g .before .seek .ensures .0) (g .match .keys2)
-    (f .before .has-room .ensures) (not-false _ (f .if3 .left)) (c .before .before .before .before .before .before .put-new .ensures)
+    (f .before .has-cell .ensures) (not-false _ (f .if3 .left)) (l .before .lacking .ensures) (l .if4 .left)
+    (c .before .before .before .before .before .before .put-new .ensures)
 
 pub put-spec : {M : Type 1} → statement M
 put-spec =
@@ -77,13 +88,18 @@ put-spec =
     (λ c. search needs)
     (λ c. search needs)
     returns-3
-    has-room-requires
+    (λ c κs. search needs)
     (λ c. search needs)
     (λ c. search needs)
     (λ c. search needs)
     returns-4
+    lacking-requires
+    (λ c. search needs)
+    (λ c. search needs)
+    (λ c. search needs)
+    returns-5
     put-new-requires
     (λ c. search needs)
     (λ c. search needs)
     (λ c. search needs)
-    returns-5)
+    returns-6)
