@@ -22,7 +22,7 @@ static ucontext_t here, there;
 
 /* Two keys of 256 bytes that differ in the last, and numbers to lend. */
 static uint8_t one[256], other[256];
-static uint64_t word, ikey, child, frame, order, ikeys[15], children[16];
+static uint64_t word, ikey, child, frame, lacking, entries, order, ikeys[15], children[16];
 static size_t told, shifts, start, n, c;
 
 /* The calls, each with what makes it go deep. */
@@ -41,10 +41,11 @@ static void compare_key(void) { cherchivola_compare_key(n, ikeys, children, 5, 0
 static void insert_key(void) { cherchivola_insert_key_and_child(&n, ikeys, children, n, n + 1, 7); }
 static void lengths(void) { cherchivola_lengths(LENT, &n, &c); }
 static void clear(void) { cherchivola_clear(LENT); }
+static void count(void) { cherchivola_count(LENT, &entries); }
 static void audit(void) { cherchivola_audit(LENT); }
 static void find(void) { cherchivola_find(LENT, other, 256, &frame); }
 static void kth(void) { cherchivola_kth(LENT, 0, &child, &order, &frame); }
-static void put(void) { cherchivola_put(LENT, other, 256, 7); }
+static void put(void) { cherchivola_put(LENT, other, 256, 7, &lacking); }
 static void remove_key(void) { cherchivola_remove_key(LENT, other, 256); }
 
 /* The bytes below the top that are written while this runs. */
@@ -89,14 +90,14 @@ int main(void) {
     tell("key_new", key_new), tell("key_compare_suffix, 256 bytes", compare_suffix), tell("key_shift_by", key_shift_by);
     tell("compare_keys, 256 bytes", compare_keys);
     tell("insert_key_and_child", insert_key), tell("find_insert_position", find_position), tell("child_for", child_for);
-    tell("compare_key", compare_key), tell("lengths", lengths), tell("clear", clear);
-    cherchivola_put(LENT, one, 256, 7);
+    tell("compare_key", compare_key), tell("lengths", lengths), tell("clear", clear), tell("count", count);
+    cherchivola_put(LENT, one, 256, 7, &lacking);
     printf("one node, and a key of 256 bytes that becomes 32 layers\n");
     tell_index();
     for (size_t k = 0; k < sizeof layers / sizeof *layers; k++) {
         memset(other, 'a', sizeof other), other[8 * layers[k] - 8] = 'b';
         cherchivola_clear(LENT);
-        cherchivola_put(LENT, one, 256, 7);
+        cherchivola_put(LENT, one, 256, 7, &lacking);
         printf("one node, and a key of 256 bytes that becomes %zu layers\n", layers[k]);
         tell_index();
     }

@@ -169,11 +169,11 @@ uint64_t cherchivola_insert_key_and_child(size_t *n, uint64_t ikeys[15], uint64_
  *     static uint8_t bytes[CHERCHIVOLA_KEY_BYTES(40)];
  *
  * Other lengths are refused with 10, and then nothing is read or written through the three pointers. Before the first call memory may hold
- * anything; `clear` makes an empty index of it. Every other call but `lengths` looks at all of lent memory first, and is refused with 10
+ * anything; `clear` makes an empty index of it. Every other call but `lengths` and `count` looks at all of lent memory first, and is refused with 10
  * where that is no index by the rules of docs/LAYOUT.md: so is most damage, often a single flipped bit. (Not seen is what leaves an index:
  * another frame number, another byte far back in a long key.) What clear and accepted calls leave is never refused with 10.
  *
- * Stack: `clear` and `lengths` take under 150 bytes. The others take 2 KiB and 400 bytes for each node on the longest way from the root
+ * Stack: `clear`, `lengths` and `count` take under 150 bytes. The others take 2 KiB and 400 bytes for each node on the longest way from the root
  * down through all layers, and 6 KiB at least. With 255 lent nodes 105 kB are enough, whatever stands in them.
  */
 #define CHERCHIVOLA_NODE_WORDS(n) (2 + 47 * (size_t)(n))
@@ -210,6 +210,14 @@ uint64_t cherchivola_find(const uint64_t *nodes, size_t node_words, const uint64
  */
 uint64_t cherchivola_kth(const uint64_t *nodes, size_t node_words, const uint64_t *cells, size_t cell_words, const uint8_t *bytes,
                          size_t byte_count, uint64_t k, uint64_t *cell, uint64_t *key_length, uint64_t *frame);
+
+/*
+ * How many entries there are, as the index has it stored: it looks at the lengths alone, and takes tens of instructions where `find` takes
+ * tens of thousands. After damage the number may be any; every other call refuses such memory with 10. Refused: 10 for wrong lengths; then
+ * *count is as it was.
+ */
+uint64_t cherchivola_count(const uint64_t *nodes, size_t node_words, const uint64_t *cells, size_t cell_words, const uint8_t *bytes,
+                           size_t byte_count, uint64_t *count);
 
 /* Whether lent memory is an index, all of it. Refused: 10. */
 uint64_t cherchivola_audit(const uint64_t *nodes, size_t node_words, const uint64_t *cells, size_t cell_words, const uint8_t *bytes,

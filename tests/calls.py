@@ -3,8 +3,8 @@
 #
 #     python3 calls.py --memories 9 --calls 30 --seed 1 > ../crates/replay_index/stdin
 #
-# A line has 570 bytes: the call (m a new memory of zeros, c clear, p put, d remove, f find, k k-th), its number in two hex digits, a frame
-# number in sixteen, a number in sixteen (k for k-th; for a put the nodes lacking, 0 but with 14; for m eight digits N and eight C), the sum in
+# A line has 570 bytes: the call (m a new memory of zeros, c clear, p put, d remove, f find, k k-th, n count), its number in two hex digits, a frame
+# number in sixteen, a number in sixteen (k for k-th; the number of entries for a count; for a put the nodes lacking, 0 but with 14; for m eight digits N and eight C), the sum in
 # sixteen, the key's length in four, the key in 514 filled up with zeros, and a line feed. For k-th the key is the entry's. The sum begins with 1 and takes, for each
 # word of nodes, of cells and each byte, three times itself and the number, modulo 2^64.
 
@@ -55,6 +55,12 @@ def put_line(memory, key, frame):
     return line("p", answer.number, frame, answer.lacking or 0, sum_of(memory), key)
 
 
+# A count, made on the memory, as a line.
+def count_line(memory):
+    answer = index.count(memory)
+    return line("n", answer.number, 0, answer.count or 0, sum_of(memory))
+
+
 # One random call, made on the memory, as a line.
 def random_call(rng, memory, kind, growing):
     key = key_of(rng, kind if kind < 5 else rng.randrange(5))
@@ -88,6 +94,8 @@ def calls_on(rng, size, kind, count):
     yield line("c", index.clear(memory).number, 0, 0, sum_of(memory))
     for i in range(count):
         yield random_call(rng, memory, kind, i < 2 * count // 3)
+        if i % 10 == 9:
+            yield count_line(memory)
 
 
 def main():

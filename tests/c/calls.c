@@ -252,6 +252,11 @@ static void call_put(void) {
     tell_word(0), take_back();
 }
 
+static void call_count(void) {
+    lend(), returned(cherchivola_count(LENT, word(0, 3)));
+    tell_word(0), take_back();
+}
+
 static void call_find(void) {
     lend(), returned(cherchivola_find(LENT, key[0], key_length[0], word(0, 3)));
     tell_word(0), take_back();
@@ -310,7 +315,7 @@ static const struct named calls[] = {
     CALL(swap_free_slots), CALL(insert_from_back), CALL(remove), CALL(remove_to_back), CALL(remove_slot), CALL(exchange), CALL(rotate),
     CALL(read_ikey), CALL(compare_keys), CALL(key_new), CALL(key_shift), CALL(key_shift_by), CALL(key_unshift), CALL(key_unshift_all),
     CALL(key_compare), CALL(key_compare_suffix), CALL(find_insert_position), CALL(compare_key), CALL(child_for),
-    CALL(insert_key_and_child), CALL(lengths), CALL(clear), CALL(put), CALL(remove_key), CALL(find), CALL(kth), CALL(audit)};
+    CALL(insert_key_and_child), CALL(lengths), CALL(clear), CALL(put), CALL(remove_key), CALL(find), CALL(kth), CALL(count), CALL(audit)};
 
 /* Takes `x` and hex as the next key of the line. */
 static void take_key(const char *hex) {

@@ -15,7 +15,7 @@ from some import SLOT_CALLS, KEY_CALLS, NODE_CALLS, key_call, node_call, slot_ca
 from lent import SIZES, Lent
 
 SHOWN = 10
-INDEX_CALLS = ["lengths", "clear", "put", "remove_key", "find", "kth", "audit"]
+INDEX_CALLS = ["lengths", "clear", "put", "remove_key", "find", "kth", "count", "audit"]
 FUNCTIONS = SLOT_CALLS + KEY_CALLS + NODE_CALLS + INDEX_CALLS
 
 

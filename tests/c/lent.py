@@ -50,7 +50,7 @@ class Lent:
     # So many calls and a few more: first on anything, then from a clear on, with damage and wrong lengths among them.
     def session(self, count):
         self.fill()
-        for name in ("audit", "put", "find", "remove_key", "kth", "lengths"):
+        for name in ("audit", "put", "find", "remove_key", "kth", "count", "lengths"):
             self.call(name)
         self.clear()
         for k in range(count):
@@ -76,7 +76,7 @@ class Lent:
     # A call's name; more puts where memory is to fill up.
     def some_name(self):
         names = ["put"] * (12 if self.growing else 3) + ["remove_key"] * (2 if self.growing else 6)
-        return self.rng.choice(names + ["find"] * 3 + ["kth"] * 3 + ["audit", "lengths"])
+        return self.rng.choice(names + ["find"] * 3 + ["kth"] * 3 + ["count"] * 2 + ["audit", "lengths"])
 
     # A key: one that is stored, one near to it, or one of the kind that is being put.
     def some_key(self):
@@ -122,7 +122,7 @@ class Lent:
         old = row[at]
         row[at] = self.rng.choice(damage.other_bytes(old) if which == 2 else damage.other_words(old, [row[at - 1]]))
         self.talk.note("set", which, at, row[at])
-        names = ["find", "kth", "audit", "lengths"] + ([] if is_tree(self.memory) else ["put", "remove_key"])
+        names = ["find", "kth", "count", "audit", "lengths"] + ([] if is_tree(self.memory) else ["put", "remove_key"])
         room, self.room = self.room, None
         for _ in range(4):
             self.call(self.rng.choice(names))
@@ -208,6 +208,13 @@ class Lent:
         if self.room is not None:
             assert sorted(self.map.items())[k] == (answer.key, answer.frame), (k, answer)
         return (k, *olds), 0, (cell_of(lent, answer.key), len(answer.key), answer.frame)
+
+    def ask_count(self, lent):
+        old = before(self.rng)
+        answer = index.count(lent)
+        if self.room is not None and lent is self.memory:
+            assert answer.count == len(self.map), (answer, len(self.map))
+        return (old,), answer.number, (or_else(answer.count, old),)
 
     def ask_audit(self, lent):
         return (), 0 if is_tree(lent) else 10, ()

@@ -17,7 +17,7 @@ ZERO_CELL = bytes(CELL_BYTES)
 # The rules that can be broken, by name.
 RULES = {
     "lengths": "the three lists have the lengths of 1 to 255 nodes and cells",
-    "header": "the word kept in the header is zero",
+    "count": "the count in the header is the number of entries with a cell",
     "node number": "root, children and links are numbers of nodes",
     "reached once": "no node is reached twice",
     "kind": "a node reached is a leaf or an internode",
@@ -66,10 +66,10 @@ class Audit:
     # Visits all that can be reached from the root, then looks at the rest.
     def walk(self):
         self.reached, self.cells, self.leaf_depths, self.layers = set(), set(), {}, 1
-        self.demand("header", self.memory.nodes[1] == 0)
         self.waiting = [Visit(self.memory.nodes[0], 0, 0, None, None, ())]
         while self.waiting:
             self.visit(self.waiting.pop())
+        self.demand("count", self.memory.count() == len(self.cells))
         self.look_at_the_rest()
 
     # Judges one node as what its kind says.

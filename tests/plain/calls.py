@@ -90,9 +90,12 @@ def setting(memory):
 # Some random calls, each followed by the sum.
 def calls_on(memory, rng, count):
     stored = set(key for key, _ in index.listing(memory)) if index.is_tree(memory) else set()
-    for _ in range(count):
+    for i in range(count):
         yield random_call(rng, memory, stored)
         yield "sum %d" % sum_of(memory)
+        if i % 10 == 9:
+            answer = index.count(memory)
+            yield "count %d %d" % (answer.number, answer.count or 0)
 
 
 # A cleared memory of each size.

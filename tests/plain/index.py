@@ -1,6 +1,6 @@
-# The index over lent memory: clear, put, find, remove and the k-th entry.
+# The index over lent memory: clear, put, find, remove, the k-th entry and the count.
 #
-# Every call answers Answer(number, key, frame, lacking): number 0 is accepted, else the refusal; with 14 the nodes lacking.
+# Every call answers Answer(number, key, frame, lacking, count): number 0 is accepted, else the refusal; with 14 the nodes lacking.
 
 from collections import namedtuple
 
@@ -14,7 +14,7 @@ TOO_LONG, NOT_A_TREE, STORED, NOT_STORED, NO_CELL, FEW_NODES = 7, 10, 11, 12, 13
 FOUND, CONFLICT, ABSENT = "found", "conflict", "absent"
 WIDTH = nodes.WIDTH
 
-Answer = namedtuple("Answer", "number key frame lacking", defaults=(None, None, None))
+Answer = namedtuple("Answer", "number key frame lacking count", defaults=(None, None, None, None))
 
 # Where a key belongs. layer: its layer's number from the top. above: the (leaf, slot) of the link to that
 # layer, or None. path: the internodes on the way down. leaf, position: the entry found or in conflict, or the
@@ -79,6 +79,13 @@ def remove(memory, key, audited=False):
     memory.zero_cell(cell_at(memory, place))
     nodes.drop_entry(memory, place.leaf, place.position)
     return ACCEPTED
+
+
+# Gives the count as it stands in the header; only the lent lengths are looked at.
+def count(memory):
+    if not memory.right_lengths():
+        return Answer(NOT_A_TREE)
+    return Answer(0, count=memory.count())
 
 
 # Gives key and frame of the entry with k entries before it.

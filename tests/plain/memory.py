@@ -82,13 +82,19 @@ class Memory:
     def key(self, cell):
         return self.cell_bytes(cell)[:self.mark(cell) - 1]
 
-    # Writes a key and its frame number into a cell, zeros behind the key.
+    # The count of entries in the header.
+    def count(self):
+        return self.nodes[1]
+
+    # Writes a key and its frame number into a cell, zeros behind the key; one entry more where the cell was free.
     def set_cell(self, cell, key, frame):
+        self.nodes[1] += self.mark(cell) == 0
         self.cells[CELL_WORDS * cell:CELL_WORDS * (cell + 1)] = [len(key) + 1, frame]
         self.bytes[CELL_BYTES * cell:CELL_BYTES * (cell + 1)] = key.ljust(CELL_BYTES, b"\0")
 
-    # Makes a cell free: all zero.
+    # Makes a cell that is in use free: all zero, and one entry less.
     def zero_cell(self, cell):
+        self.nodes[1] -= 1
         self.cells[CELL_WORDS * cell:CELL_WORDS * (cell + 1)] = [0, 0]
         self.bytes[CELL_BYTES * cell:CELL_BYTES * (cell + 1)] = bytes(CELL_BYTES)
 

@@ -64,6 +64,11 @@ class Replay:
         answer = index.kth(self.memory, int(k))
         return (answer.number, answer.key or b"", answer.frame or 0) == (int(number), key_of(key), int(frame))
 
+    # A count and its answer.
+    def do_count(self, number, value):
+        answer = index.count(self.memory)
+        return (answer.number, answer.count or 0) == (int(number), int(value))
+
     # The sum of the whole memory.
     def do_sum(self, value):
         return sum_of(self.memory) == int(value)

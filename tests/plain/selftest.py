@@ -220,7 +220,7 @@ def check_shapes(scale):
 def check_refusals(scale):
     good = run(fresh(1, 1), [(b"a", 1)])
     bad, short = good.copy(), good.copy()
-    bad.nodes[1] = 1
+    bad.nodes[1] = 2
     short.bytes.pop()
     long, k = bytes(257), b"a"
     cases = [(good, 11, 12, 0), (bad, 10, 10, 10), (short, 10, 10, 10)]
@@ -341,7 +341,7 @@ def check_files(scale):
     options = damage.options_from(["--sample", str(60 * scale), "--crafted", "--lengths"])
     counts = replayed(damage.file_lines(options))
     counts.update(replayed(calls.file_lines(1, 40 * scale)))
-    same(set(counts), {"memory", "set", "is", "try", "lent", "clear", "put", "del", "find", "kth", "sum"}, "kinds")
+    same(set(counts), {"memory", "set", "is", "try", "lent", "clear", "put", "del", "find", "kth", "count", "sum"}, "kinds")
     return "%d lines" % sum(counts.values())
 
 

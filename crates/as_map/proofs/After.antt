@@ -13,7 +13,7 @@ use Rattle.order.specs.Bytes.{bytewise}
 use Rattle.order.specs.Map as order
 use Rattle.order.specs.Map.{Map, All, a[], _a∷_, lookup}
 use Rattle.arena.specs.Memory.{Memory}
-use Rattle.as_map.specs.Calls.{Call, clear, put, find, remove, kth, OfBytes, Heard, done, frame, entry, refusal, refused}
+use Rattle.as_map.specs.Calls.{Call, clear, put, find, remove, kth, count, OfBytes, Heard, done, frame, entry, counted, refusal, refused}
 use Rattle.as_map.specs.Calls.{heard, left, leftAfter, answers, Room, cellFree, nodesEnough, nodesLacking, roomFor, rooms}
 use Rattle.as_map.specs.Map.{whether, mapSays, mapLeft, mapAnswers, mapAfter}
 use Rattle.as_map.proofs.Says.{says}
@@ -26,7 +26,7 @@ pub one-heard : (m : Memory) (xs : Map) → Lists m xs → (call : Call) → OfB
 one-heard m xs (v, t, bytes, e) call b = says m v t bytes call b ∙ ap (λ (ys : Map). mapSays (roomFor m call) ys call) e
 
 -- and leaves what the map does
-one-left : (m : Memory) (xs : Map) → Lists m xs → (call : Call) → OfBytes call
+pub one-left : (m : Memory) (xs : Map) → Lists m xs → (call : Call) → OfBytes call
     → Lists (left m call) (mapLeft (roomFor m call) xs call)
 one-left m xs (v, t, bytes, e) call b =
     subst (λ (ys : Map). Lists (left m call) (mapLeft (roomFor m call) ys call)) e (leaves m v t bytes call b)
@@ -51,18 +51,22 @@ abbrev pub refusalOf : Heard → ℕ
 refusalOf done = 0
 refusalOf (frame x) = 0
 refusalOf (entry key x) = 0
+refusalOf (counted n) = 0
 refusalOf (refusal n told) = n
 
-not-10 : {h : Heard} (n : ℕ) → refusalOf h ≡ n → n ≢ 10 → h ≢ refused 10
-not-10 n e d q = d (sym e ∙ ap refusalOf q)
+-- a caller does not hear 10, whatever were told with it
+abbrev pub Not10 : Heard → Type 0
+Not10 h = (told : List ℕ) → h ≢ refusal 10 told
 
-says-not-10 : (room : Room) (xs : Map) (call : Call) → mapSays room xs call ≢ refused 10
+not-10 : {h : Heard} (n : ℕ) → refusalOf h ≡ n → n ≢ 10 → Not10 h
+not-10 n e d told q = d (sym e ∙ ap refusalOf q)
+
+says-not-10 : (room : Room) (xs : Map) (call : Call) → Not10 (mapSays room xs call)
 says-not-10 room xs clear = not-10 0 refl (λ e. omega arith)
 says-not-10 room xs (put key x) = go (leb (length key) 256) (lookup bytewise key xs) (cellFree room) (nodesEnough room) (nodesLacking room)
   where
     go : (short : Bool) (found : Option ℕ) (cell nodes : Bool) (n : ℕ)
-        → cond short (whether (cond cell (cond nodes done (refusal 14 (n ∷ []))) (refused 13)) (λ y. refused 11) found) (refused 7)
-        ≢ refused 10
+        → Not10 (cond short (whether (cond cell (cond nodes done (refusal 14 (n ∷ []))) (refused 13)) (λ y. refused 11) found) (refused 7))
     go true none true true n = not-10 0 refl (λ e. omega arith)
     go true none true false n = not-10 14 refl (λ e. omega arith)
     go true none false nodes n = not-10 13 refl (λ e. omega arith)
@@ -70,23 +74,24 @@ says-not-10 room xs (put key x) = go (leb (length key) 256) (lookup bytewise key
     go false found cell nodes n = not-10 7 refl (λ e. omega arith)
 says-not-10 room xs (find key) = go (leb (length key) 256) (lookup bytewise key xs)
   where
-    go : (short : Bool) (found : Option ℕ) → cond short (whether (refused 12) frame found) (refused 7) ≢ refused 10
+    go : (short : Bool) (found : Option ℕ) → Not10 (cond short (whether (refused 12) frame found) (refused 7))
     go true none = not-10 12 refl (λ e. omega arith)
     go true (some y) = not-10 0 refl (λ e. omega arith)
     go false found = not-10 7 refl (λ e. omega arith)
 says-not-10 room xs (remove key) = go (leb (length key) 256) (lookup bytewise key xs)
   where
-    go : (short : Bool) (found : Option ℕ) → cond short (whether (refused 12) (λ y. done) found) (refused 7) ≢ refused 10
+    go : (short : Bool) (found : Option ℕ) → Not10 (cond short (whether (refused 12) (λ y. done) found) (refused 7))
     go true none = not-10 12 refl (λ e. omega arith)
     go true (some y) = not-10 0 refl (λ e. omega arith)
     go false found = not-10 7 refl (λ e. omega arith)
 says-not-10 room xs (kth k) = go (order.kth k xs)
   where
-    go : (o : Option (List ℕ × ℕ)) → whether (refused 12) (λ e. entry (e .0) (e .1)) o ≢ refused 10
+    go : (o : Option (List ℕ × ℕ)) → Not10 (whether (refused 12) (λ e. entry (e .0) (e .1)) o)
     go none = not-10 12 refl (λ e. omega arith)
     go (some e) = not-10 0 refl (λ e. omega arith)
+says-not-10 room xs count = not-10 0 refl (λ e. omega arith)
 
-pub all-not-10 : (rooms : List Room) (xs : Map) (calls : List Call) → All (λ h. h ≢ refused 10) (mapAnswers rooms xs calls)
+pub all-not-10 : (rooms : List Room) (xs : Map) (calls : List Call) → All Not10 (mapAnswers rooms xs calls)
 all-not-10 rooms xs [] = a[]
 all-not-10 [] xs (call ∷ calls) = a[]
 all-not-10 (room ∷ rooms) xs (call ∷ calls) = says-not-10 room xs call a∷ all-not-10 rooms (mapLeft room xs call) calls

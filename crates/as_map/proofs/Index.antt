@@ -15,7 +15,7 @@ use Rattle.forest.specs.IsTree.{Layers, IsTree, listing}
 use Rattle.forest.proofs.Accepts.{tree-accepted}
 use Rattle.forest.proofs.One.{tree-one}
 use Rattle.places.proofs.Found.{listing-rises}
-use Rattle.as_map.specs.Calls.{Call, kth, OfBytes, entry, refused, heard, leftAfter, roomFor, rooms, answers}
+use Rattle.as_map.specs.Calls.{Call, kth, OfBytes, entry, refusal, refused, heard, leftAfter, roomFor, rooms, answers}
 use Rattle.as_map.specs.Map.{whether, mapSays, mapAnswers, mapAfter}
 use Rattle.as_map.proofs.Leaves.{Lists, cleared-lists}
 use Rattle.as_map.proofs.After.{one-heard, all-heard, all-left, all-not-10}
@@ -50,9 +50,9 @@ module _ (n c : ℕ) (n-low : 1 ≤ n) (n-high : n ≤ 255) (c-low : 1 ≤ c) (c
   always-tree = let (v, t, b, e) = after-lists in tree-accepted after v t
 
   -- no answer is refusal 10
-  pub never-10 : All (λ h. h ≢ refused 10) (answers (emptied n c) calls)
+  pub never-10 : All (λ h. (told : List ℕ) → h ≢ refusal 10 told) (answers (emptied n c) calls)
   never-10 =
-      subst (All (λ h. h ≢ refused 10)) (sym (index-is-map n c n-low n-high c-low c-high of-bytes)) (all-not-10 (rooms (emptied n c) calls) [] calls)
+      subst (All (λ h. (told : List ℕ) → h ≢ refusal 10 told)) (sym (index-is-map n c n-low n-high c-low c-high of-bytes)) (all-not-10 (rooms (emptied n c) calls) [] calls)
 
   -- ---- the listing
 
@@ -62,7 +62,7 @@ module _ (n c : ℕ) (n-low : 1 ≤ n) (n-high : n ≤ 255) (c-low : 1 ≤ c) (c
 
   -- and strictly rises by key
   pub map-rises : Rising entries
-  map-rises = let (v, t, b, e) = after-lists in subst Rising e (listing-rises after v t b)
+  map-rises = let (v, t, b, e) = after-lists in subst Rising e (listing-rises after v (t .forest) b)
 
   -- kth k hears its k-th entry
   pub kth-heard : (k : ℕ) (key : List ℕ) (x : ℕ) → order.kth k entries ≡ some (key, x) → heard after (kth k) ≡ entry key x

@@ -3,13 +3,12 @@ use mathlib.Core.Path.{_≡_, refl, sym, ap, subst}
 use mathlib.Core.Bool.{Bool, true, false, cond, not, _&&_}
 use mathlib.Core.List.{List, [], _∷_}
 use mathlib.Core.Option.{Option, none, some}
-use Prim.Native.Nat.{ℕ, _*_, _≤_, Ordering, Ordering·lt, Ordering·eq, Ordering·gt}
+use Prim.Native.Nat.{ℕ, _+_, _-_, _*_, _≤_, Ordering, Ordering·lt, Ordering·eq, Ordering·gt}
 use native.Mathlib.Omega.{arith}
 use lib.Dec.{T, leb}
 use lib.ListN.{length}
 use borrow.Author.Tests.{leb-true}
 use Rattle.bank.proofs.Tests.{is-true}
-use Rattle.puts.proofs.Puts.{put-tree}
 use Rattle.refusal.specs.Answer.{_unless_, _telling_, answered}
 use Rattle.order.specs.Bytes.{Bytes, bytewise}
 use Rattle.order.specs.Map.{Map, pick, lookup, alter, insert, delete}
@@ -17,11 +16,12 @@ use Rattle.arena.specs.Memory.{Memory, nodeCount, cellCount, rightLengths, empt
 use Rattle.arena.proofs.Measures.{right-means}
 use Rattle.forest.specs.IsTree.{Layers, IsTree, listing}
 use Rattle.forest.proofs.Cleared.{cleared-tree}
-use Rattle.model.specs.Calls.{place, stored, without, with, hasCell, hasNodes, hasRoom, lacking, removed, putDone, whenAccepted}
+use Rattle.model.specs.Calls.{countOf, place, stored, without, with, withCount, hasCell, hasNodes, hasRoom, lacking, removed, putDone}
+use Rattle.model.specs.Calls.{whenAccepted}
 use Rattle.places.proofs.Found.{isSome, stored-lookup}
-use Rattle.places.proofs.Removed.{removed-tree}
+use Rattle.index_counted.proofs.Kept.{put-counted, remove-counted}
 use Rattle.places.proofs.FreedCells.{bytes-zeros}
-use Rattle.as_map.specs.Calls.{Call, clear, put, find, remove, kth, OfBytes, left, roomFor}
+use Rattle.as_map.specs.Calls.{Call, clear, put, find, remove, kth, count, OfBytes, left, roomFor}
 use Rattle.as_map.specs.Map.{whether, mapLeft}
 use Rattle.as_map.proofs.Says.{accepted}
 
@@ -51,7 +51,7 @@ module _ (m : Memory) (lent : T (rightLengths (length (m .nodes)) (length (m .ce
 -- ---- remove and put
 
 -- a key that is not there leaves nothing to delete
-delete-missing : (key : List ℕ) (xs : Map) → lookup bytewise key xs ≡ none → delete bytewise key xs ≡ xs
+pub delete-missing : (key : List ℕ) (xs : Map) → lookup bytewise key xs ≡ none → delete bytewise key xs ≡ xs
 unfolding lookup alter
 delete-missing key [] e = refl
 delete-missing key (x ∷ xs) e = go (bytewise key (x .0)) e (delete-missing key xs)
@@ -89,54 +89,63 @@ module _ (m : Memory) (v : Layers) (t : IsTree m v) (bytes : Bytes (m .bytes)) w
   as-it-was = (v, t, bytes, refl)
 
   module _ (key : List ℕ) (b : Bytes key) where
-    its-rest : stored m key ≡ true → Lists (without m (place m key)) (delete bytewise key (listing m v))
-    its-rest e = let (w, u, l, c) = removed-tree m v t bytes key b e in (w, u, c, l)
+    -- memory without the key, and one less counted
+    abbrev less : Memory
+    less = withCount (without m (place m key)) (countOf m - 1)
+
+    its-rest : stored m key ≡ true → Lists less (delete bytewise key (listing m v))
+    its-rest e = let ((w, u, l), c) = remove-counted m v t bytes key b e in (w, u, c, l)
 
     remove-leaves : Lists (left m (remove key)) (mapLeft (roomFor m (remove key)) (listing m v) (remove key))
     unfolding removed
     remove-leaves =
-        rw (accepted m v t bytes, remove-left (leb (length key) 256) (stored m key) (without m (place m key)) m)
-        (go (leb (length key) 256) (stored m key) (lookup bytewise key (listing m v)) (stored-lookup m v t bytes key b) (λ e. its-rest e)
+        rw (accepted m v t bytes, remove-left (leb (length key) 256) (stored m key) less m)
+        (go (leb (length key) 256) (stored m key) (lookup bytewise key (listing m v)) (stored-lookup m v (t .forest) bytes key b) (λ e. its-rest e)
         (delete-missing key (listing m v)))
       where
         go : (short there : Bool) (found : Option ℕ) → there ≡ isSome found
-            → (there ≡ true → Lists (without m (place m key)) (delete bytewise key (listing m v)))
+            → (there ≡ true → Lists less (delete bytewise key (listing m v)))
             → (found ≡ none → delete bytewise key (listing m v) ≡ listing m v)
-            → Lists (cond short (cond there (without m (place m key)) m) m) (cond short (delete bytewise key (listing m v)) (listing m v))
-        go false there found e less same = as-it-was
-        go true true found e less same = less refl
-        go true false none e less same = (v, t, bytes, sym (same refl))
-        go true false (some x) e less same = let z : _≡_ {A = ℕ} 0 1 = cc in absurd (omega arith)
+            → Lists (cond short (cond there less m) m) (cond short (delete bytewise key (listing m v)) (listing m v))
+        go false there found e rest same = as-it-was
+        go true true found e rest same = rest refl
+        go true false none e rest same = (v, t, bytes, sym (same refl))
+        go true false (some x) e rest same = let z : _≡_ {A = ℕ} 0 1 = cc in absurd (omega arith)
 
     module _ (x : ℕ) where
+      -- memory with the key, and one more counted
+      abbrev more : Memory
+      more = withCount (with m key x) (countOf m + 1)
+
       its-more : leb (length key) 256 ≡ true → stored m key ≡ false → hasRoom m key ≡ true
-          → Lists (with m key x) (insert bytewise key x (listing m v))
-      its-more short e r = let (w, u, l, c) = put-tree m v t bytes key b (leb-true (length key) 256 short) x e r in (w, u, c, l)
+          → Lists more (insert bytewise key x (listing m v))
+      its-more short e r = let ((w, u, l), c) = put-counted m v t bytes key b (leb-true (length key) 256 short) x e r in (w, u, c, l)
 
       put-leaves : Lists (left m (put key x)) (mapLeft (roomFor m (put key x)) (listing m v) (put key x))
       unfolding putDone
       put-leaves =
           rw (
             accepted m v t bytes,
-            put-left (leb (length key) 256) (stored m key) (hasCell m) (hasNodes m key) (lacking m key) (with m key x) m,
+            put-left (leb (length key) 256) (stored m key) (hasCell m) (hasNodes m key) (lacking m key) more m,
           )
-          (go (leb (length key) 256) (stored m key) (hasRoom m key) (lookup bytewise key (listing m v)) (stored-lookup m v t bytes key b) its-more)
+          (go (leb (length key) 256) (stored m key) (hasRoom m key) (lookup bytewise key (listing m v)) (stored-lookup m v (t .forest) bytes key b) its-more)
         where
           go : (short there room : Bool) (found : Option ℕ) → there ≡ isSome found
-              → (short ≡ true → there ≡ false → room ≡ true → Lists (with m key x) (insert bytewise key x (listing m v)))
-              → Lists (cond short (cond there m (cond room (with m key x) m)) m)
+              → (short ≡ true → there ≡ false → room ≡ true → Lists more (insert bytewise key x (listing m v)))
+              → Lists (cond short (cond there m (cond room more m)) m)
               (cond short (whether (cond room (insert bytewise key x (listing m v)) (listing m v)) (λ y. listing m v) found) (listing m v))
-          go false there room found e more = as-it-was
-          go true true room (some y) e more = as-it-was
-          go true false true none e more = more refl refl refl
-          go true false false none e more = as-it-was
-          go true true room none e more = let z : _≡_ {A = ℕ} 0 1 = cc in absurd (omega arith)
-          go true false room (some y) e more = let z : _≡_ {A = ℕ} 0 1 = cc in absurd (omega arith)
+          go false there room found e made = as-it-was
+          go true true room (some y) e made = as-it-was
+          go true false true none e made = made refl refl refl
+          go true false false none e made = as-it-was
+          go true true room none e made = let z : _≡_ {A = ℕ} 0 1 = cc in absurd (omega arith)
+          go true false room (some y) e made = let z : _≡_ {A = ℕ} 0 1 = cc in absurd (omega arith)
 
   -- every call leaves what the map does
   pub leaves : (call : Call) → OfBytes call → Lists (left m call) (mapLeft (roomFor m call) (listing m v) call)
-  leaves clear b = clear-leaves m (t .lent)
+  leaves clear b = clear-leaves m (t .forest .lent)
   leaves (put key x) b = put-leaves key b x
   leaves (find key) b = as-it-was
   leaves (remove key) b = remove-leaves key b
   leaves (kth k) b = as-it-was
+  leaves count b = as-it-was

@@ -3,3 +3,4 @@ pub mod Leaves
 pub mod After
 pub mod Room
 pub mod Index
+pub mod Count

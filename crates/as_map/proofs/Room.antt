@@ -20,6 +20,7 @@ use Rattle.forest.specs.Walk.{isTree}
 use Rattle.forest.specs.IsTree.{Layers, IsTree, listing}
 use Rattle.forest.proofs.Accepts.{tree-accepted}
 use Rattle.forest.proofs.Cleared.{nothing, nothing-is, cells-lent}
+use Rattle.model.specs.Calls.{countOf, place, without}
 use Rattle.model.specs.Calls.{nodesOf, cellsOf, stored, needed, hasCell, hasNodes, hasRoom, lacking, with, putDone, removed}
 use Rattle.places.proofs.Found.{isSome, stored-lookup}
 use Rattle.places.proofs.FreedCells.{bytes-zeros}
@@ -27,7 +28,8 @@ use Rattle.places.proofs.Removed.{removed-frees}
 use Rattle.puts.specs.Needed.{leading, fullUpward, neededNodes}
 use Rattle.puts.proofs.Needed.{needed-as-said}
 use Rattle.puts.proofs.Puts as puts
-use Rattle.as_map.specs.Calls.{put, remove, Heard, done, frame, entry, refusal, refused, heardOf, heard, left}
+use Rattle.index_counted.proofs.Set.{free-kept}
+use Rattle.as_map.specs.Calls.{put, remove, Heard, done, frame, entry, counted, refusal, refused, heardOf, heard, left}
 use Rattle.as_map.specs.Calls.{cellFree, nodesEnough, roomFor, NoCell, FewNodes, Took, Freed}
 use Rattle.as_map.proofs.Says.{says}
 use Rattle.as_map.proofs.After.{refusalOf}
@@ -74,6 +76,7 @@ abbrev toldOf : Heard → ℕ
 toldOf done = 0
 toldOf (frame x) = 0
 toldOf (entry key x) = 0
+toldOf (counted n) = 0
 toldOf (refusal n told) = getD told 0 0
 
 -- 14 only where all rules before it hold, and with this number
@@ -116,10 +119,10 @@ module _ (m : Memory) (v : Layers) (t : IsTree m v) (bytes : Bytes (m .bytes)) (
 
   -- the key is not stored where the listing does not have it, and where that is so the put needs what document 01 counts
   new-listed : stored m key ≡ false → lookup bytewise key (listing m v) ≡ none
-  new-listed e = new-missing (lookup bytewise key (listing m v)) (sym (stored-lookup m v t bytes key b) ∙ e)
+  new-listed e = new-missing (lookup bytewise key (listing m v)) (sym (stored-lookup m v (t .forest) bytes key b) ∙ e)
 
   new-stored : lookup bytewise key (listing m v) ≡ none → stored m key ≡ false
-  new-stored e = stored-lookup m v t bytes key b ∙ ap isSome e
+  new-stored e = stored-lookup m v (t .forest) bytes key b ∙ ap isSome e
 
   module _ (x : ℕ) where
     pub put-no-cell : heard m (put key x) ≡ refused 13 → NoCell m v key
@@ -140,7 +143,7 @@ module _ (m : Memory) (v : Layers) (t : IsTree m v) (bytes : Bytes (m .bytes)) (
         only-14 (leb (length key) 256) (isTree m) (stored m key) (hasCell m) (hasNodes m key) (lacking m key) n e in
         let fits = leb-true (length key) 256 short in
         let less : length nodes < needed m key = leb-false (needed m key) (length nodes) few in
-        let same : needed m key ≡ neededNodes m v key = needed-as-said m v t bytes key b fits new in
+        let same : needed m key ≡ neededNodes m v key = needed-as-said m v (t .forest) bytes key b fits new in
         record {
           short = fits;
           new = new-listed new;
@@ -153,7 +156,7 @@ module _ (m : Memory) (v : Layers) (t : IsTree m v) (bytes : Bytes (m .bytes)) (
     unfolding putDone
     few-nodes-put n l =
         let new = new-stored (l .new) in
-        let same : needed m key ≡ neededNodes m v key = needed-as-said m v t bytes key b (l .short) new in
+        let same : needed m key ≡ neededNodes m v key = needed-as-said m v (t .forest) bytes key b (l .short) new in
         let some-lack = l .not-none in
         let sum = l .lacking in
         let told : lacking m key ≡ n = omega arith in
@@ -173,11 +176,13 @@ module _ (m : Memory) (v : Layers) (t : IsTree m v) (bytes : Bytes (m .bytes)) (
         put-only (leb (length key) 256) (isTree m) (stored m key) (hasCell m) (hasNodes m key) (lacking m key) e in
         let fits = leb-true (length key) 256 short in
         let room : hasRoom m key ≡ true = rw (cell, enough) refl in
-        let (n, c) = puts.put-takes m v t bytes key b fits x new room in
+        let (n, c) = puts.put-takes m v (t .forest) bytes key b fits x new room in
         rw (short, good, new, cell, enough)
         (record {
-          nodes-taken = subst (λ (k : ℕ). freeNodes (with m key x .nodes) (nodesOf m) ≡ drop k nodes)
-              (needed-as-said m v t bytes key b fits new) n;
+          nodes-taken =
+              free-kept (with m key x .nodes) (countOf m + 1) 0 (nodesOf m)
+              ∙ subst (λ (k : ℕ). freeNodes (with m key x .nodes) (nodesOf m) ≡ drop k nodes)
+              (needed-as-said m v (t .forest) bytes key b fits new) n;
           cell-taken = c;
           cell-written = refl;
           key-written = refl;
@@ -188,9 +193,17 @@ module _ (m : Memory) (v : Layers) (t : IsTree m v) (bytes : Bytes (m .bytes)) (
   unfolding removed
   remove-freed e =
       let (short, good, there) = remove-only (leb (length key) 256) (isTree m) (stored m key) e in
-      let (c, f) = removed-frees m v t bytes key b there in
-      rw (short, good, there)
-      (c, record { in-use = f .1; its-key = f .0; cell-freed = f .2; key-freed = f .3; nodes-kept = f .4 })
+      let (c, f) = removed-frees m v (t .forest) bytes key b there in
+      rw (short, good, there) (
+        c,
+        record {
+          in-use = f .1;
+          its-key = f .0;
+          cell-freed = f .2;
+          key-freed = f .3;
+          nodes-kept = free-kept (without m (place m key) .nodes) (countOf m - 1) 0 (nodesOf m) ∙ f .4;
+        },
+      )
 
 -- ---- the first put after a clear
 
@@ -212,8 +225,8 @@ module _ (n c : ℕ) (n-low : 1 ≤ n) (n-high : n ≤ 255) (c-low : 1 ≤ c) (c
   needs-none : needed m key ≡ 0
   unfolding lookup fullUpward leading
   needs-none =
-      needed-as-said m v t (bytes-zeros (c * 256)) key b short
-      (stored-lookup m v t (bytes-zeros (c * 256)) key b ∙ ap isSome no-entry)
+      needed-as-said m v (t .forest) (bytes-zeros (c * 256)) key b short
+      (stored-lookup m v (t .forest) (bytes-zeros (c * 256)) key b ∙ ap isSome no-entry)
 
   has-cell : cellFree (roomFor m (put key x)) ≡ true
   has-cell =

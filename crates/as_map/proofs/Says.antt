@@ -15,10 +15,10 @@ use Rattle.arena.specs.Memory.{Memory, rightLengths, cleared}
 use Rattle.forest.specs.Walk.{isTree}
 use Rattle.forest.specs.IsTree.{Layers, IsTree, listing}
 use Rattle.forest.proofs.Accepts.{tree-accepted}
-use Rattle.model.specs.Calls.{place, stored, frameOf, inKeyOrder, entryOf, findSaid, kthSaid, removed, putDone, hasCell, hasNodes, lacking}
+use Rattle.model.specs.Calls.{place, stored, frameOf, inKeyOrder, entryOf, findSaid, kthSaid, countSaid, removed, putDone, hasCell, hasNodes, lacking}
 use Rattle.views.proofs.Listed.{keyAndFrame, cells-listed}
 use Rattle.places.proofs.Found.{asList, isSome, stored-lookup, frame-lookup}
-use Rattle.as_map.specs.Calls.{Call, clear, put, find, remove, kth, OfBytes, Heard, done, frame, entry, refusal, refused}
+use Rattle.as_map.specs.Calls.{Call, clear, put, find, remove, kth, count, OfBytes, Heard, done, frame, entry, counted, refusal, refused}
 use Rattle.as_map.specs.Calls.{heardOf, heard, keyTold, roomFor}
 use Rattle.as_map.specs.Map.{whether, mapSays}
 
@@ -82,16 +82,16 @@ module _ (m : Memory) (v : Layers) (t : IsTree m v) (bytes : Bytes (m .bytes)) w
     find-says : heard m (find key) ≡ mapSays (roomFor m (find key)) (listing m v) (find key)
     unfolding findSaid
     find-says =
-        rw (accepted, stored-lookup m v t bytes key b, frame-lookup m v t bytes key b) (find-ruled (leb (length key) 256) found)
+        rw (accepted, stored-lookup m v (t .forest) bytes key b, frame-lookup m v (t .forest) bytes key b) (find-ruled (leb (length key) 256) found)
 
     remove-says : heard m (remove key) ≡ mapSays (roomFor m (remove key)) (listing m v) (remove key)
     unfolding removed
-    remove-says = rw (accepted, stored-lookup m v t bytes key b) (remove-ruled (leb (length key) 256) found)
+    remove-says = rw (accepted, stored-lookup m v (t .forest) bytes key b) (remove-ruled (leb (length key) 256) found)
 
     put-says : (x : ℕ) → heard m (put key x) ≡ mapSays (roomFor m (put key x)) (listing m v) (put key x)
     unfolding putDone
     put-says x =
-        rw (accepted, stored-lookup m v t bytes key b)
+        rw (accepted, stored-lookup m v (t .forest) bytes key b)
         (put-ruled (leb (length key) 256) found (hasCell m) (hasNodes m key) (lacking m key))
 
   kth-says : (k : ℕ) → heard m (kth k) ≡ mapSays (roomFor m (kth k)) (listing m v) (kth k)
@@ -100,15 +100,21 @@ module _ (m : Memory) (v : Layers) (t : IsTree m v) (bytes : Bytes (m .bytes)) w
       rw accepted
       (kth-told (ltb k (length (inKeyOrder m))) (entryOf m (getD (inKeyOrder m) k 0)) (λ values. entry (keyTold m values) (getD values 2 0))
       ∙ kth-ruled (keyAndFrame (m .cells) (m .bytes)) k (inKeyOrder m)
-      ∙ ap (λ (xs : order.Map). whether (refused 12) (λ (e : List ℕ × ℕ). entry (e .0) (e .1)) (order.kth k xs)) (cells-listed m v t))
+      ∙ ap (λ (xs : order.Map). whether (refused 12) (λ (e : List ℕ × ℕ). entry (e .0) (e .1)) (order.kth k xs)) (cells-listed m v (t .forest)))
+
+  count-says : heard m count ≡ mapSays (roomFor m count) (listing m v) count
+  unfolding countSaid
+  count-says =
+      rw (is-true (rightLengths (length (m .nodes)) (length (m .cells)) (length (m .bytes))) (t .forest .lent)) (ap counted (t .counted))
 
   -- every call hears what the map says
   pub says : (call : Call) → OfBytes call → heard m call ≡ mapSays (roomFor m call) (listing m v) call
-  says clear b = clear-says m (t .lent)
+  says clear b = clear-says m (t .forest .lent)
   says (put key x) b = put-says key b x
   says (find key) b = find-says key b
   says (remove key) b = remove-says key b
   says (kth k) b = kth-says k
+  says count b = count-says
 
 -- ---- a stored key, by the listing
 
@@ -116,7 +122,7 @@ pub stored-means : (m : Memory) (v : Layers) → IsTree m v → Bytes (m .bytes)
     → (stored m key ≡ true → (x : ℕ) × (order.lookup bytewise key (listing m v) ≡ some x) × (frameOf m (place m key) ≡ x ∷ []))
     × (stored m key ≡ false → order.lookup bytewise key (listing m v) ≡ none)
 stored-means m v t bytes key b =
-    go (stored m key) (order.lookup bytewise key (listing m v)) (stored-lookup m v t bytes key b) (frame-lookup m v t bytes key b)
+    go (stored m key) (order.lookup bytewise key (listing m v)) (stored-lookup m v (t .forest) bytes key b) (frame-lookup m v (t .forest) bytes key b)
   where
     go : (there : Bool) (found : Option ℕ) → there ≡ isSome found → frameOf m (place m key) ≡ asList found
         → (there ≡ true → (x : ℕ) × (found ≡ some x) × (frameOf m (place m key) ≡ x ∷ [])) × (there ≡ false → found ≡ none)

@@ -14,7 +14,7 @@ use Rattle.arena.specs.Layout.{keyStart, markAt, keyAt, freedCell, freedKey, pu
 use Rattle.arena.specs.Free.{freeNodes, freeCells}
 use Rattle.arena.specs.Memory.{Memory, cleared}
 use Rattle.forest.specs.IsTree.{Layers, listing}
-use Rattle.model.specs.Calls.{nodesOf, cellsOf, needed, findSaid, kthSaid, removed, putDone}
+use Rattle.model.specs.Calls.{nodesOf, cellsOf, needed, findSaid, kthSaid, countSaid, removed, putDone}
 use Rattle.puts.specs.Needed.{neededNodes}
 
 -- a call, with its key and frame number, or its k
@@ -23,13 +23,15 @@ pub data Call : Type 0 where
   put : List ℕ → ℕ → Call
   find remove : List ℕ → Call
   kth : ℕ → Call
+  count : Call
 
--- what a caller hears: done, a frame number, an entry with its key and frame number, or a refusal, by its number and the numbers that it
--- tells
+-- what a caller hears: done, a frame number, an entry with its key and frame number, a number of entries, or a refusal, by its number and
+-- the numbers that it tells
 pub data Heard : Type 0 where
   done : Heard
   frame : ℕ → Heard
   entry : List ℕ → ℕ → Heard
+  counted : ℕ → Heard
   refusal : ℕ → List ℕ → Heard
 
 -- a refusal that tells nothing beside its number
@@ -52,6 +54,7 @@ heard m (put key x) = heardOf (putDone m key x .answer) (λ values. done)
 heard m (find key) = heardOf (findSaid m key) (λ values. frame (getD values 0 0))
 heard m (remove key) = heardOf (removed m key .answer) (λ values. done)
 heard m (kth k) = heardOf (kthSaid m k) (λ values. entry (keyTold m values) (getD values 2 0))
+heard m count = heardOf (countSaid m) (λ values. counted (getD values 0 0))
 
 -- and the memory that it leaves
 abbrev pub left : Memory → Call → Memory
@@ -60,6 +63,7 @@ left m (put key x) = putDone m key x .after
 left m (find key) = m
 left m (remove key) = removed m key .after
 left m (kth k) = m
+left m count = m
 
 -- ---- room
 
@@ -88,6 +92,7 @@ nodesFor m (put key x) = needed m key
 nodesFor m (find key) = 0
 nodesFor m (remove key) = 0
 nodesFor m (kth k) = 0
+nodesFor m count = 0
 
 -- what this call finds
 abbrev pub roomFor : Memory → Call → Room
@@ -122,6 +127,7 @@ OfBytes (put key x) = Bytes key
 OfBytes (find key) = Bytes key
 OfBytes (remove key) = Bytes key
 OfBytes (kth k) = Unit {0}
+OfBytes count = Unit {0}
 
 -- ---- what a put lacks, what it takes, and what a removal frees, where memory is the tree v
 

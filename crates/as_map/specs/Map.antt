@@ -8,7 +8,7 @@ use lib.ListN.{length}
 use Rattle.order.specs.Bytes.{bytewise}
 use Rattle.order.specs.Map as map
 use Rattle.order.specs.Map.{Map}
-use Rattle.as_map.specs.Calls.{Call, clear, put, find, remove, kth, Heard, done, frame, entry, refusal, refused}
+use Rattle.as_map.specs.Calls.{Call, clear, put, find, remove, kth, count, Heard, done, frame, entry, counted, refusal, refused}
 use Rattle.as_map.specs.Calls.{Room, cellFree, nodesEnough, nodesLacking}
 
 -- f of the value that is there, else z
@@ -32,6 +32,7 @@ mapSays room xs (put key x) =
 mapSays room xs (find key) = ofLength key (refused 7) (whether (refused 12) frame (map.lookup bytewise key xs))
 mapSays room xs (remove key) = ofLength key (refused 7) (whether (refused 12) (λ y. done) (map.lookup bytewise key xs))
 mapSays room xs (kth k) = whether (refused 12) (λ e. entry (e .0) (e .1)) (map.kth k xs)
+mapSays room xs count = counted (length xs)
 
 -- and the map that it leaves
 abbrev pub mapLeft : Room → Map → Call → Map
@@ -42,6 +43,7 @@ mapLeft room xs (put key x) =
 mapLeft room xs (find key) = xs
 mapLeft room xs (remove key) = ofLength key xs (map.delete bytewise key xs)
 mapLeft room xs (kth k) = xs
+mapLeft room xs count = xs
 
 -- what it says to one call after the other, where each finds the room beside it
 abbrev pub mapAnswers : List Room → Map → List Call → List Heard

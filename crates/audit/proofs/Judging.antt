@@ -2,10 +2,11 @@
 use mathlib.Core.Path.{_≡_, refl, sym, ap, _∙_}
 use mathlib.Core.Bool.{Bool, true, false, cond}
 use mathlib.Core.List.{List, [], _∷_}
+use mathlib.Core.Option.{some}
 use Prim.Native.Nat.{ℕ, _<_}
 use native.Mathlib.Omega.{arith}
 use borrow.Author.Needs.{needs}
-use borrow.Author.Tests.{not-true, not-false, eq-eqb, ne-eqb}
+use borrow.Author.Tests.{not-true, not-false}
 use lib.ListN.{length, getD, length-replicate}
 use Rattle.refusal.specs.Answer.{Answer, accepted, refused}
 use Rattle.refusal.specs.declared.Refusal.{Refusal}
@@ -18,7 +19,7 @@ use Rattle.arena.specs.Parts.{zeros}
 use Rattle.arena.specs.Memory as lent
 use Rattle.arena.specs.Memory.{memory, nodeCount, cellCount, rightLengths, measured, saidMeasured}
 use Rattle.arena.proofs.Measures.{Right, fit-means, right-if}
-use Rattle.forest.specs.Walk.{Seen, walkLayer, restFree, walkedWell, isTree}
+use Rattle.forest.specs.Walk.{Seen, walkLayer, walkedWell, isTree}
 use Rattle.walk.specs.Steps.{told, Lent}
 use Rattle.audit_seen.specs.Seen.{LentAll}
 use Rattle.audit.specs.Audit.{audited}
@@ -44,12 +45,9 @@ module _ (nodes cells bytes : List ℕ) {r : Measured} (e : saidMeasured r ≡ m
     fit-true : rightLengths (length nodes) (length cells) (length bytes) ≡ true
     fit-true = right-if _ _ _ n c fit
 
-    -- the two words before the nodes
+    -- the number of the root
     pub first-in : 0 < length nodes
     first-in = omega (arith, fit .nodes-whole)
-
-    pub second-in : 1 < length nodes
-    second-in = omega (arith, fit .n-low, fit .nodes-whole)
 
     pub lent-walk : Lent nodes cells bytes (zeros 510) (zeros 32) 0
     lent-walk =
@@ -70,24 +68,20 @@ module _ (nodes cells bytes : List ℕ) {r : Measured} (e : saidMeasured r ≡ m
         let w = fit in
         record { n-few = w .n-high; c-few = w .c-high; nodes-all = w .nodes-whole; cells-all = w .cells-whole; bytes-all = w .bytes-whole; room = l }
 
-    pub judge-header : (getD nodes 1 0 ≡ 0 → ⊥) → false ≡ isTree (memory nodes cells bytes)
-    unfolding isTree
-    judge-header h = rw (fit-true, ne-eqb _ _ h)
-
-    module _ (z : getD nodes 1 0 ≡ 0) (w : Bool) (s : Seen) (g : told w s ≡ walkLayer 31 (memory nodes cells bytes) [] (getD nodes 0 0) (zeros 510)) where
+    module _ (w : Bool) (s : Seen) (g : told w s ≡ walkLayer 31 (memory nodes cells bytes) [] (getD nodes 0 0) (zeros 510)) where
       walked : isTree (memory nodes cells bytes) ≡ walkedWell (memory nodes cells bytes) (told w s)
       unfolding isTree
-      walked = rw (fit-true, eq-eqb _ _ z, ← g)
+      walked = rw (fit-true, ← g)
 
       pub judge-not : w ≡ false → false ≡ isTree (memory nodes cells bytes)
       unfolding told
       judge-not h = rw (walked, h)
 
-      pub judge-rest : {q : Bool} → w ≡ true → q ≡ restFree (memory nodes cells bytes) s → q ≡ isTree (memory nodes cells bytes)
+      pub judge-rest : {q : Bool} → w ≡ true → q ≡ walkedWell (memory nodes cells bytes) (some s) → q ≡ isTree (memory nodes cells bytes)
       unfolding told
       judge-rest h d = rw (walked, h) d
 
-pub ruleset judging = (needs, not-true, not-false, judge-unfit, first-in, second-in, lent-walk, lent-all, judge-header, judge-not, judge-rest)
+pub ruleset judging = (needs, not-true, not-false, judge-unfit, first-in, lent-walk, lent-all, judge-not, judge-rest)
 
 -- ---- the answer
 

@@ -29,14 +29,11 @@ pub fn is_tree(nodes: &[u64], cells: &[u64], bytes: &[u8]) -> bool
     let Measured::Fit { nodes: n, cells: c } = arena::lengths(nodes, cells, bytes) else {
         return false;
     };
-    if nodes[1] != 0 {
-        return false;
-    }
     let root = nodes[0];
     let mut seen = [0u8; 510];
     let mut above = [0u64; 32];
     if !walk::inside::walk_layer(nodes, cells, bytes, &mut seen, &mut above, 0, root) {
         return false;
     }
-    audit_seen::inside::rest_free(nodes, cells, bytes, &seen, n, c)
+    audit_seen::inside::rest_right(nodes, cells, bytes, &seen, n, c)
 }

@@ -25,6 +25,10 @@ nodeLeft nodes seen k = eqb (getD seen (nodeNo k) 0) 1 || nodeFree nodes k
 unfoldable pub cellLeft : List ℕ → List ℕ → Seen → ℕ → Bool
 cellLeft cells bytes seen c = eqb (getD seen (cellNo c) 0) 1 || cellFree cells bytes c
 
+-- a cell was seen
+abbrev pub cellSeen : Seen → ℕ → Bool
+cellSeen seen c = eqb (getD seen (cellNo c) 0) 1
+
 -- n nodes and c cells are all that is lent
 pub record LentAll (nodes cells bytes seen : List ℕ) (n c : ℕ) : Type 0 where
   pub n-few : n ≤ mostLent

@@ -1,2 +1,2 @@
-// The numbers of nodes and cells that a walk through lent memory has seen: each taken once, and the rest free.
+// The numbers of nodes and cells that a walk through lent memory has seen: each taken once, the rest free, and the cells counted.
 pub mod inside;

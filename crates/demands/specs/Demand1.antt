@@ -131,7 +131,7 @@ pub record KeepsMemory (rules : List Rule) (values : List ℕ) (m : Memory) (d :
   pub ruled : AsRuled rules values [] (d .answer)
   pub kept : 0 < d .answer .number → d .after ≡ m
 
--- Clear: 10 for wrong lent lengths only.
+-- Clear, and count: 10 for wrong lent lengths only.
 abbrev pub clearRules : Memory → List Rule
 clearRules m = (10 unless rightLengths (length (m .nodes)) (length (m .cells)) (length (m .bytes))) ∷ []
 
@@ -160,6 +160,11 @@ kthRules m k = (10 unless isTree m) ∷ (12 unless ltb k (length (index.inKeyOrd
 pub kths : (m : Memory) (k : ℕ) → AsRuled (kthRules m k) (index.entryOf m (getD (index.inKeyOrder m) k 0)) [] (index.kthSaid m k)
 unfolding index.kthSaid listedAbove
 kths m k = as-ruled tt
+
+-- Count changes no byte: the number of entries as it is stored, 10 for wrong lent lengths only (document 02, A5).
+pub counts : (m : Memory) → AsRuled (clearRules m) (index.countOf m ∷ []) [] (index.countSaid m)
+unfolding index.countSaid listedAbove
+counts m = as-ruled tt
 
 -- Remove: as find.
 pub removes : (m : Memory) (key : List ℕ) → KeepsMemory (findRules m key) [] m (index.removed m key)

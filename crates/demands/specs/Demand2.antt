@@ -18,14 +18,17 @@ use Rattle.key.specs.Layers.{comparedByLayers}
 use Rattle.key.proofs.Layers as laws
 use Rattle.order.specs.Map as map
 use Rattle.order.specs.Map.{All, Rising}
+use Rattle.arena.specs.Free.{freeCells}
 use Rattle.arena.specs.Memory.{Memory, rightLengths, emptied}
 use Rattle.forest.specs.IsTree.{Layers, IsTree, listing}
 use Rattle.forest.specs.Walk.{isTree}
-use Rattle.model.specs.Calls.{nodesOf, cellsOf}
+use Rattle.model.specs.Calls.{countOf, nodesOf, cellsOf}
 use Rattle.puts.specs.Needed.{neededNodes, lentMore}
-use Rattle.as_map.specs.Calls.{Call, clear, put, kth, done, entry, refusal, refused, heard, left, answers, leftAfter, OfBytes}
+use Rattle.as_map.specs.Calls.{Call, clear, put, kth, count, done, entry, counted, refusal, refused}
+use Rattle.as_map.specs.Calls.{heard, left, answers, leftAfter, OfBytes}
 use Rattle.as_map.specs.Calls.{roomFor, rooms, NoCell, FewNodes, Took}
 use Rattle.as_map.specs.Map.{mapSays, mapLeft, mapAnswers, mapAfter}
+use Rattle.as_map.specs.Tally.{putsSince, removalsSince}
 use Rattle.places.proofs.Found as found
 use Rattle.puts.proofs.Needed as needs
 use Rattle.puts.proofs.MoreLent as more
@@ -33,6 +36,8 @@ use Rattle.as_map.proofs.Says as says
 use Rattle.as_map.proofs.Leaves as leaves
 use Rattle.as_map.proofs.Room as room
 use Rattle.as_map.proofs.Index as index
+use Rattle.as_map.proofs.Count as tally
+use Rattle.index_counted.proofs.Cells as cells
 
 -- Layer by layer, as their bytes do.
 pub keys-compare : (a b : List ℕ) → Bytes a → Bytes b → length a ≤ 256 → length b ≤ 256
@@ -46,7 +51,7 @@ whole-keys-compare a b p q h l = sym (laws.whole-by-layers a b h l p q)
 
 -- ---- the index
 --
--- `heard m call` is what the caller of `clear`, `put`, `find`, `remove` or `kth` hears, by what their contracts promise
+-- `heard m call` is what the caller of `clear`, `put`, `find`, `remove`, `kth` or `count` hears, by what their contracts promise
 -- (crates/model/specs/Calls.antt), and `left m call` the memory that the call leaves; `emptied n c` is what clear leaves of n nodes and c
 -- cells. `rooms m calls` is what each call finds free, and the nodes that it needs. `mapAnswers` and `mapAfter` are the same calls on a
 -- sorted map from keys to frame numbers: of the memory the map is told no more than that.
@@ -67,8 +72,8 @@ module _ (n c : ℕ) (n-low : 1 ≤ n) (n-high : n ≤ 255) (c-low : 1 ≤ c) (c
   pub always-a-tree : T (isTree (leftAfter (emptied n c) calls))
   always-a-tree = index.always-tree n c n-low n-high c-low c-high of-bytes
 
-  -- and never gets refusal 10.
-  pub never-10 : All (λ h. h ≢ refused 10) (answers (emptied n c) calls)
+  -- and never gets refusal 10, whatever were told with it.
+  pub never-10 : All (λ h. (told : List ℕ) → h ≢ refusal 10 told) (answers (emptied n c) calls)
   never-10 = index.never-10 n c n-low n-high c-low c-high of-bytes
 
   -- The listing is the whole map,
@@ -89,6 +94,26 @@ module _ (n c : ℕ) (n-low : 1 ≤ n) (n-high : n ≤ 255) (c-low : 1 ≤ c) (c
   pub kth-past : (k : ℕ) → length (mapAfter (rooms (emptied n c) calls) [] calls) ≤ k
       → heard (leftAfter (emptied n c) calls) (kth k) ≡ refused 12
   kth-past k h = index.kth-past n c n-low n-high c-low c-high of-bytes k h
+
+  -- ---- the count (document 02, A5): word 1 of the nodes, which document 01 keeps at zero, is the number of entries
+  --
+  -- Stored are accepted puts less accepted removals since the clear: with the removals, the count is the puts,
+  pub count-of-calls : countOf (leftAfter (emptied n c) calls) + removalsSince 0 calls (answers (emptied n c) calls)
+      ≡ putsSince 0 calls (answers (emptied n c) calls)
+  count-of-calls = tally.count-of-calls n c n-low n-high c-low c-high of-bytes
+
+  -- and `count` tells it.
+  pub count-told : heard (leftAfter (emptied n c) calls) count ≡ counted (countOf (leftAfter (emptied n c) calls))
+  count-told = tally.count-heard n c n-low n-high c-low c-high of-bytes
+
+module _ (m : Memory) (v : Layers) (t : IsTree m v) where
+  -- On any tree, the count is the number of entries listed,
+  pub count-is-entries : countOf m ≡ length (listing m v)
+  count-is-entries = t .counted
+
+  -- and stored cells plus free cells equal the lent cells.
+  pub stored-and-free : countOf m + length (freeCells (m .cells) (cellsOf m)) ≡ cellsOf m
+  stored-and-free = cells.stored-and-free m v t
 
 -- ---- one call, on any lent memory that is a tree v, whatever was called before
 
@@ -126,14 +151,15 @@ module _ (m : Memory) (v : Layers) (t : IsTree m v) (bytes : Bytes (m .bytes)) (
   module _ (short : length key ≤ 256) (new : map.lookup bytewise key (listing m v) ≡ none) where
     -- What the put counts on its one way down is that number.
     pub needed-as-said : roomFor m (put key x) .nodes-needed ≡ neededNodes m v key
-    needed-as-said = needs.needed-as-said m v t bytes key b short (found.stored-lookup m v t bytes key b ∙ ap found.isSome new)
+    needed-as-said =
+        needs.needed-as-said m v (t .forest) bytes key b short (found.stored-lookup m v (t .forest) bytes key b ∙ ap found.isSome new)
 
     -- It does not depend on what is free: with more free nodes lent, memory is the same tree, and the need is the same.
     pub same-need : (k : ℕ) → nodesOf m + k ≤ 255
         → IsTree (lentMore m k) v × (roomFor (lentMore m k) (put key x) .nodes-needed ≡ roomFor m (put key x) .nodes-needed)
     same-need k few = (
-      more.more-lent m v t k few,
-      more.same-need m v t k few bytes key b short (found.stored-lookup m v t bytes key b ∙ ap found.isSome new),
+      more.more-counted m v (t .forest) k few (t .counted),
+      more.same-need m v (t .forest) k few bytes key b short (found.stored-lookup m v (t .forest) bytes key b ∙ ap found.isSome new),
     )
 
 -- So the first put after a clear is accepted, however little is lent.

@@ -32,12 +32,12 @@ one-tree = tree-one
 module _ (m : Memory) (v : Layers) (t : IsTree m v) where
   -- The cells in key order, each with its key and its frame number, are the listing,
   pub order-is-listing : map (λ c. (keyAt (m .cells) (m .bytes) c, frameAt (m .cells) c)) (index.inKeyOrder m) ≡ listing m v
-  order-is-listing = cells-listed m v t
+  order-is-listing = cells-listed m v (t .forest)
 
   module _ (bytes : Bytes (m .bytes)) where
     -- which strictly rises by key.
     pub listing-in-order : Rising (listing m v)
-    listing-in-order = listing-rises m v t bytes
+    listing-in-order = listing-rises m v (t .forest) bytes
 
     module _ (key : List ℕ) (b : Bytes key) where
       -- A key is stored exactly where the listing has it, and its frame number is the one there.

@@ -3,13 +3,14 @@ ghost use mathlib.Core.List.{[], _∷_};
 ghost use lib.ListN.{length};
 ghost use Rattle.arena.specs.Memory.{memory, cleared, measured};
 ghost use Rattle.audit.specs.Audit.{audited};
-ghost use Rattle.model.specs.Calls.{putDone, removed, findSaid, kthSaid};
+ghost use Rattle.model.specs.Calls.{putDone, removed, findSaid, kthSaid, countSaid};
 ghost use Rattle.crossing.specs.Crossing.{Crossed};
 ghost use Rattle.index_crossing.specs.Lent.{CrossedLent};
 ghost use Rattle.index_crossing.specs.Told.{CrossedLentTold};
 use index_crossing::give_added;
 use index_crossing::give_audited;
 use index_crossing::give_cleared;
+use index_crossing::give_counted;
 use index_crossing::give_found;
 use index_crossing::give_listed;
 use index_crossing::give_measured;
@@ -103,6 +104,20 @@ pub extern "C" fn cherchivola_kth(
         (now (cell .exit) ∷ now («key_length» .exit) ∷ now (frame .exit) ∷ []) ⌝ }
 {
     give_listed(index::kth(nodes, cells, bytes, k), cell, key_length, frame)
+}
+
+// How many entries there are, as the number is stored.
+#[no_mangle]
+pub extern "C" fn cherchivola_count(
+    nodes: &[u64],
+    cells: &[u64],
+    bytes: &[u8],
+    count: &mut u64,
+) -> u64
+    ensures { λ r. ⌜ Crossed (countSaid (memory (now (nodes .entry)) (now (cells .entry)) (now (bytes .entry)))) r
+        (now (count .entry) ∷ []) (now (count .exit) ∷ []) ⌝ }
+{
+    give_counted(index::count(nodes, cells, bytes), count)
 }
 
 // Whether lent memory is a tree by the rules.

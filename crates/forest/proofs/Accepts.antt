@@ -1,6 +1,6 @@
 -- The walk accepts exactly the memory that is a tree. Assumes nothing.
 use mathlib.Core.Path.{_≡_, refl, sym, _∙_}
-use mathlib.Core.Bool.{Bool, _&&_, _||_}
+use mathlib.Core.Bool.{Bool, true, _&&_, _||_}
 use mathlib.Core.List.{List, [], _∷_}
 use mathlib.Core.Logic.{⊎-elim}
 use mathlib.Core.Option.{Option, none, some}
@@ -9,7 +9,7 @@ use native.Mathlib.Omega.{arith}
 use lib.Dec.{T, eqb, eqb→eq}
 use lib.ListN.{length, getD, length-replicate, getD-replicate, List·getD-eq-default}
 use Rattle.bank.specs.Lists.{allBelow}
-use Rattle.bank.proofs.Tests.{and-left, and-right, and-both, is-true, equal, at, all-at}
+use Rattle.bank.proofs.Tests.{and-left, and-right, and-both, is-true, holds, equal, at, all-at}
 use Rattle.arena.specs.Parts.{zeros}
 use Rattle.arena.specs.Layout as layout
 use Rattle.arena.specs.Memory.{Memory, nodeCount, cellCount, rightLengths}
@@ -19,11 +19,13 @@ use Rattle.forest.specs.Nodes.{nodeFree}
 use Rattle.forest.specs.Cells.{cellFree}
 use Rattle.forest.specs.Trees.{nodeNo, cellNo}
 use Rattle.forest.specs.Layers.{reached}
-use Rattle.forest.specs.IsTree.{Layers, IsTree}
-use Rattle.forest.specs.Walk.{Seen, walkLayer, restFree, walkedWell, isTree}
+use Rattle.forest.specs.Count.{countOf}
+use Rattle.forest.specs.IsTree.{Layers, listing, Forest, IsTree}
+use Rattle.forest.specs.Walk.{Seen, walkLayer, restFree, cellsSeen, walkedWell, isTree}
 use Rattle.forest.proofs.Decides.{mark, Adds, Fits}
 use Rattle.forest.proofs.LayerWalk.{layer-decides}
 use Rattle.forest.proofs.Beyond.{layer-none}
+use Rattle.forest.proofs.Counts.{as-many-marked, cells-counted, few-255}
 
 -- ---- marks from nothing
 
@@ -90,9 +92,6 @@ module _ (m : Memory) where
   abbrev rootIn : ℕ
   rootIn = layout.rootOf (m .nodes)
 
-  abbrev keptZero : Bool
-  keptZero = eqb (getD (m .nodes) 1 0) 0
-
   abbrev nodesFree : Seen → Bool
   nodesFree after = allBelow nodesIn (λ k. eqb (getD after (nodeNo k) 0) 1 || nodeFree (m .nodes) k)
 
@@ -108,14 +107,23 @@ module _ (m : Memory) where
   low-cell : RightIn → (c : ℕ) → c < cellsIn → cellNo c < 510
   low-cell right c h = omega (arith, right .c-high)
 
+  abbrev countRight : Seen → Bool
+  countRight after = eqb (countOf m) (cellsSeen m after)
+
+  -- the cells that were seen are as many as the entries of the tree
+  module _ (right : RightIn) (v : Layers) (t : Forest m v) (after : Seen) (a : Adds (zeros 510) (reached 31 v) after) where
+    seen-listed : cellsSeen m after ≡ length (listing m v)
+    unfolding cellsSeen
+    seen-listed =
+        as-many-marked cellsIn (λ c. getD after (cellNo c) 0) (λ c. reached 31 v (cellNo c))
+        (λ c h. counted-at 510 (reached 31 v) after a (cellNo c) (low-cell right c h)) (λ c h. t .at-most-once (cellNo c))
+        ∙ sym (cells-counted m v t)
+
   -- what the walk accepts is a tree
   pub tree-found : T (isTree m) → (v : Layers) × IsTree m v
   unfolding isTree restFree
-  tree-found t = go (walkLayer 31 m [] rootIn (zeros 510)) refl (and-right keptZero _ rest)
+  tree-found t = go (walkLayer 31 m [] rootIn (zeros 510)) refl (and-right lentRight _ t)
     where
-      rest : T (keptZero && walkedWell m (walkLayer 31 m [] rootIn (zeros 510)))
-      rest = and-right lentRight _ t
-
       right : RightIn
       right = right-means _ _ _ (is-true lentRight (and-left lentRight _ t))
 
@@ -123,29 +131,34 @@ module _ (m : Memory) where
       go none e w = absurd w
       go (some after) e w =
           let (y, a) = layer-decides m nodesIn (right .nodes-whole) (right .n-high) 31 [] rootIn .sound (zeros 510) after e in
-          let (v, rooted, held, edges, filed) = y in (
+          let (v, rooted, held, edges, filed) = y in
+          let free : T (nodesFree after && cellsFree after) = and-left (nodesFree after && cellsFree after) (countRight after) w in
+          let forest : Forest m v = record {
+            lent = and-left lentRight _ t;
+            rooted = sym rooted;
+            held = held;
+            in-edges = edges;
+            at-most-once = counted-most 510 (reached 31 v) after a;
+            filed = filed;
+            other-nodes =
+                others-free (reached 31 v) after a nodesIn nodeNo (nodeFree (m .nodes)) (low-node right)
+                (and-left (nodesFree after) (cellsFree after) free);
+            other-cells =
+                others-free (reached 31 v) after a cellsIn cellNo (cellFree (m .cells) (m .bytes)) (low-cell right)
+                (and-right (nodesFree after) (cellsFree after) free);
+          } in (
             v,
             record {
-              lent = and-left lentRight _ t;
-              rooted = sym rooted;
-              kept-zero = eqb→eq _ _ (and-left keptZero _ rest);
-              held = held;
-              in-edges = edges;
-              at-most-once = counted-most 510 (reached 31 v) after a;
-              filed = filed;
-              other-nodes =
-                  others-free (reached 31 v) after a nodesIn nodeNo (nodeFree (m .nodes)) (low-node right)
-                  (and-left (nodesFree after) (cellsFree after) w);
-              other-cells =
-                  others-free (reached 31 v) after a cellsIn cellNo (cellFree (m .cells) (m .bytes)) (low-cell right)
-                  (and-right (nodesFree after) (cellsFree after) w);
+              forest = forest;
+              counted = eqb→eq _ _ (and-right (nodesFree after && cellsFree after) (countRight after) w) ∙ seen-listed right v forest after a;
             },
           )
 
   -- a tree is accepted by the walk
   pub tree-accepted : (v : Layers) → IsTree m v → T (isTree m)
   unfolding isTree restFree
-  tree-accepted v t =
+  tree-accepted v tree =
+      let t = tree .forest in
       let right : RightIn = right-means _ _ _ (is-true lentRight (t .lent)) in
       let past-nodes : nodeNo nodesIn ≤ 510 = omega (arith, right .n-high) in
       let past-cells : nodeNo cellsIn ≤ 510 = omega (arith, right .c-high) in
@@ -162,5 +175,12 @@ module _ (m : Memory) where
       free-others (reached 31 v) after a nodesIn nodeNo (nodeFree (m .nodes)) (low-node right) (t .other-nodes) in
       let cells-free : T (cellsFree after) =
       free-others (reached 31 v) after a cellsIn cellNo (cellFree (m .cells) (m .bytes)) (low-cell right) (t .other-cells) in
+      let count-right : T (countRight after) = equal (tree .counted ∙ sym (seen-listed right v t after a)) in
       and-both lentRight _ (t .lent)
-      (and-both keptZero _ (equal (t .kept-zero)) (rw e (and-both (nodesFree after) (cellsFree after) nodes-free cells-free)))
+      (rw e
+      (and-both (nodesFree after && cellsFree after) (countRight after)
+      (and-both (nodesFree after) (cellsFree after) nodes-free cells-free) count-right))
+
+  -- what the walk accepts counts 255 entries at most
+  pub count-few : isTree m ≡ true → countOf m ≤ 255
+  count-few e = let (v, t) = tree-found (holds e) in omega (arith, t .counted, few-255 m v (t .forest))

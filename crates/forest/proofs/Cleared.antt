@@ -23,7 +23,7 @@ use Rattle.arena.proofs.Clears.{emptied-length, emptied-root, emptied-free}
 use Rattle.forest.specs.Nodes.{allZero, entriesAt, restAt, leafRight, nodeFree}
 use Rattle.forest.specs.Cells.{cellFree}
 use Rattle.forest.specs.Trees.{seenAs, once, nodeNo}
-use Rattle.forest.specs.IsTree.{Layers, IsTree, listing}
+use Rattle.forest.specs.IsTree.{Layers, listing, Forest, IsTree}
 use Rattle.forest.proofs.Decides.{once-same, once-most}
 
 -- ---- zeros
@@ -83,12 +83,11 @@ module _ (n c : ℕ) (some-nodes : 1 ≤ n) (few-nodes : n ≤ 255) (some-cells 
   only-first zero e = absurd (omega (arith, once-same 0))
   only-first (suc k) e = omega arith
 
-  pub nothing-is : IsTree (emptied n c) nothing
+  bare : Forest (emptied n c) nothing
   unfolding nodeFree cellFree
-  nothing-is = record {
+  bare = record {
     lent = holds (right-if _ _ _ n c right);
     rooted = emptied-root n c some-nodes;
-    kept-zero = ap (λ (xs : List ℕ). getD xs 1 0) begins;
     held = (rw begins (holds (empty-right _), empty-entries _), refl, a[]);
     in-edges = (a[], a[]);
     at-most-once = λ i. omega (arith, once-most (nodeNo 0) i);
@@ -100,6 +99,9 @@ module _ (n c : ℕ) (some-nodes : 1 ≤ n) (few-nodes : n ≤ 255) (some-cells 
         and-both (allZero (part (zeros (c * 2)) (cellStart k) 2)) _ (holds (part-zero (c * 2) (cellStart k) 2))
         (holds (part-zero (c * 256) (keyStart k) 256));
   }
+
+  pub nothing-is : IsTree (emptied n c) nothing
+  nothing-is = record { forest = bare; counted = ap (λ (xs : List ℕ). getD xs 1 0) begins }
 
   -- after `clear`, memory is a tree with no entries
   pub cleared-tree : (v : Layers) × IsTree (emptied n c) v × (listing (emptied n c) v ≡ [])

@@ -6,6 +6,7 @@ pub mod NodeWalk
 pub mod Heights
 pub mod LayerWalk
 pub mod Beyond
+pub mod Counts
 pub mod Accepts
 pub mod One
 pub mod Cleared

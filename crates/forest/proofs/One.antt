@@ -11,7 +11,7 @@ use Rattle.forest.specs.Nodes.{entriesAt, ikeysAt, childrenAt}
 use Rattle.forest.specs.Trees.{Key, Ref, seenAs, Tree, topOf, entriesOf, Holds}
 use Rattle.forest.specs.Trees.{Between, last, next, Bounded, leftmost, rightmost}
 use Rattle.forest.specs.Layers.{Tall, Value, Layer, rootOf, refOf, HeldBy, Held, InEdgesBy, InEdges}
-use Rattle.forest.specs.IsTree.{Layers, IsTree}
+use Rattle.forest.specs.IsTree.{Layers, Forest, IsTree}
 use Rattle.forest.specs.Walk.{heightAt}
 use Rattle.forest.proofs.NodeWalk.{first-edge}
 use Rattle.forest.proofs.LayerWalk.{asRefs}
@@ -115,8 +115,12 @@ module _ (nodes : List ℕ) where
   value-same (suc l) (inr v) (inl w) e a b r s = let z : _≡_ {A = ℕ} 0 1 = cc in absurd (omega arith)
   value-same (suc l) (inr v) (inr w) e a b r s = ap inr (layer-same l (value-same l) v w (cc) a b r s)
 
--- the tree that memory is
-pub tree-one : (m : Memory) (v w : Layers) → IsTree m v → IsTree m w → v ≡ w
-tree-one m v w s t =
+-- the tree that memory has
+pub forest-one : (m : Memory) (v w : Layers) → Forest m v → Forest m w → v ≡ w
+forest-one m v w s t =
     let root = sym (s .rooted) ∙ t .rooted in
     layer-same (m .nodes) 31 (value-same (m .nodes) 31) v w root (s .held) (t .held) (s .in-edges) (t .in-edges)
+
+-- the tree that memory is
+pub tree-one : (m : Memory) (v w : Layers) → IsTree m v → IsTree m w → v ≡ w
+tree-one m v w s t = forest-one m v w (s .forest) (t .forest)

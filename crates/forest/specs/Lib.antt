@@ -1,3 +1,4 @@
+pub mod Count
 pub mod Nodes
 pub mod Cells
 pub mod Trees

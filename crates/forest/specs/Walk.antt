@@ -1,6 +1,6 @@
 -- The walk that decides whether memory is a tree. Layer walk calls node walk, which calls layer walk at a link. Each step takes the
 -- numbers seen so far and hands back those with its own, or nothing where a rule does not hold or a number was seen before.
-use Prim.Native.Nat.{ℕ, zero, suc, _+_, _*_, _^_, _≤_, _<_}
+use Prim.Native.Nat.{ℕ, zero, suc, _+_}
 use mathlib.Core.Bool.{Bool, true, false, cond, _&&_, _||_}
 use mathlib.Core.List.{List, [], _∷_, _++_, map}
 use mathlib.Core.Option.{Option, none, some}
@@ -11,6 +11,7 @@ use Rattle.arena.specs.Parts.{zeros}
 use Rattle.arena.specs.Layout as layout
 use Rattle.arena.specs.Layout.{kindAt}
 use Rattle.arena.specs.Memory.{Memory, nodeCount, cellCount, rightLengths}
+use Rattle.forest.specs.Count.{countOf, howMany}
 use Rattle.forest.specs.Nodes.{entriesAt, ikeysAt, childrenAt, leafRight, internodeRight, nodeFree}
 use Rattle.forest.specs.Cells.{filed, cellFree}
 use Rattle.forest.specs.Trees.{Key, Ref, cell, link, seenAs, nodeNo, cellNo, leftmost, rightmost}
@@ -116,14 +117,17 @@ restFree m seen =
     allBelow (nodeCount (length (m .nodes))) (λ k. eqb (getD seen (nodeNo k) 0) 1 || nodeFree (m .nodes) k)
     && allBelow (cellCount (length (m .cells))) (λ c. eqb (getD seen (cellNo c) 0) 1 || cellFree (m .cells) (m .bytes) c)
 
--- the walk refused nothing, and all that it left unseen is free
+-- how many of the lent cells were seen
+unfoldable pub cellsSeen : Memory → Seen → ℕ
+cellsSeen m seen = howMany (cellCount (length (m .cells))) (λ c. eqb (getD seen (cellNo c) 0) 1)
+
+-- the walk refused nothing, all that it left unseen is free, and memory counts as many entries as it saw cells
 abbrev pub walkedWell : Memory → Option Seen → Bool
 walkedWell m none = false
-walkedWell m (some seen) = restFree m seen
+walkedWell m (some seen) = restFree m seen && eqb (countOf m) (cellsSeen m seen)
 
--- the lent lengths are right, the walk from the root sees no rule broken, and what it does not see is free
+-- the lent lengths are right, the walk from the root sees no rule broken, what it does not see is free, and the count is right
 unfoldable pub isTree : Memory → Bool
 isTree m =
     rightLengths (length (m .nodes)) (length (m .cells)) (length (m .bytes))
-    && (eqb (getD (m .nodes) 1 0) 0
-    && walkedWell m (walkLayer 31 m [] (layout.rootOf (m .nodes)) (zeros 510)))
+    && walkedWell m (walkLayer 31 m [] (layout.rootOf (m .nodes)) (zeros 510))

@@ -2,7 +2,7 @@
 use mathlib.Core.Path.{_≡_, ap}
 use mathlib.Core.Bool.{Bool, true, false}
 use mathlib.Core.List.{List, [], _∷_}
-use Prim.Native.Nat.{ℕ, _≤_, _<_}
+use Prim.Native.Nat.{ℕ, _+_, _≤_, _<_}
 use denote.Enum.Declared.{tagOf}
 use types.Run.{OneOf}
 use native.Mathlib.Omega.{arith}
@@ -17,7 +17,7 @@ use Rattle.forest.specs.Walk.{isTree}
 use Rattle.model.specs.declared.Met.{Met}
 use Rattle.model.specs.declared.Met.the-variants.{Stored}
 use Rattle.model.specs.Meet.{meet}
-use Rattle.model.specs.Calls.{neededAt, putDone}
+use Rattle.model.specs.Calls.{neededAt, withCount, putDone}
 use Rattle.model.proofs.Met as met-type
 use Rattle.store.specs.Places.{hasCellIn, lackingAt, withAt}
 use Rattle.index.specs.Answers.{tooFewNodes}
@@ -57,7 +57,8 @@ module _ (nodes cells bytes key : List ℕ) (frame : ℕ) where
               let few : leb need free ≡ false = lt-leb need free (omega arith) in
               rw (le-leb (length key) 256 s, ← e, y, ← w, tag-other r h, ← d, f, few, ← l)
 
-          pub put-new : {n1 c1 b1 : List ℕ} → n ≤ 0 → memory n1 c1 b1 ≡ withAt (memory nodes cells bytes) key frame r
+          pub put-new : {n1 c1 b1 : List ℕ} → n ≤ 0
+              → memory n1 c1 b1 ≡ withCount (withAt (memory nodes cells bytes) key frame r) (getD nodes 1 0 + 1)
               → did (accepted []) (memory n1 c1 b1) ≡ putDone (memory nodes cells bytes) key frame
           unfolding putDone
           put-new z g =

@@ -1,11 +1,14 @@
-// The label index in lent memory: clear, put, find, remove, and the k-th entry in key order. Every call but clear judges the whole of
-// lent memory first; a refused call leaves every word and byte as it was. All but put are passed on, each from the crate that proves it.
+// The label index in lent memory: clear, put, find, remove, the k-th entry in key order, and the count. Every call but clear and count
+// judges the whole of lent memory first; a refused call leaves every word and byte as it was. All but put are passed on, each from the
+// crate that proves it.
 ghost use mathlib.Core.Path.{_≡_};
 ghost use Rattle.arena.specs.Memory.{memory, did};
 ghost use Rattle.model.specs.Calls.{putDone};
 ghost use Rattle.index.specs.Answers.{saidAdded};
 pub use arena::Cleared;
 pub use arena::clear;
+pub use index_count::Counted;
+pub use index_count::count;
 pub use index_questions::Found;
 pub use index_questions::Listed;
 pub use index_questions::find;
@@ -27,7 +30,7 @@ pub enum Added {
     Refused(Refusal),
 }
 
-// Stores a new key with its frame number.
+// Stores a new key with its frame number, and counts it.
 pub fn put(nodes: &mut [u64], cells: &mut [u64], bytes: &mut [u8], key: &[u8], frame: u64) -> Added
     ensures { λ r. ⌜ did (saidAdded r) (memory (now (nodes .exit)) (now (cells .exit)) (now (bytes .exit)))
         ≡ putDone (memory (now (nodes .entry)) (now (cells .entry)) (now (bytes .entry))) (now (key .entry)) frame ⌝ }
@@ -53,6 +56,6 @@ pub fn put(nodes: &mut [u64], cells: &mut [u64], bytes: &mut [u8], key: &[u8], f
     if 0 < lacking {
         return Added::TooFewNodes(lacking as u64);
     }
-    store::inside::put_new(nodes, cells, bytes, key, frame, met);
+    store::inside::put_counted(nodes, cells, bytes, key, frame, met);
     Added::Done
 }

@@ -24,6 +24,9 @@ use Rattle.index_questions.specs.declared.Found.the-variants as found-is
 use Rattle.index_questions.specs.declared.Listed.{Listed}
 use Rattle.index_questions.specs.declared.Listed.the-variants as listed-is
 use Rattle.index.specs.Answers.{saidAdded, saidRemoved, saidFound, saidListed}
+use Rattle.index_count.specs.declared.Counted.{Counted}
+use Rattle.index_count.specs.declared.Counted.the-variants as counted-is
+use Rattle.index_count.specs.Answers.{saidCounted}
 use Rattle.crossing.specs.Crossing.{Crossed}
 use Rattle.crossing.proofs.Crosses.{refusal-crosses}
 use Rattle.index_crossing.specs.Lent.{CrossedLent}
@@ -108,6 +111,14 @@ module _ {answer : Found} where
   pub found-refused : {why : Refusal} {before r : ℕ} → answer ≡ found-is.Refused why → r ≡ numberOf why →
       Crossed (saidFound answer) r (before ∷ []) (before ∷ [])
   found-refused {why} {before} e n = rw e (refusal-crosses why [] (before ∷ []) n)
+
+module _ {answer : Counted} where
+  pub counted-entries : {count before : ℕ} → answer ≡ counted-is.Entries count → Crossed (saidCounted answer) 0 (before ∷ []) (count ∷ [])
+  counted-entries e = rw e (record { number = refl; lent = refl })
+
+  pub counted-refused : {why : Refusal} {before r : ℕ} → answer ≡ counted-is.Refused why → r ≡ numberOf why →
+      Crossed (saidCounted answer) r (before ∷ []) (before ∷ [])
+  counted-refused {why} {before} e n = rw e (refusal-crosses why [] (before ∷ []) n)
 
 module _ {answer : Listed} where
   pub listed-entry : {cell length frame a b c : ℕ} → answer ≡ listed-is.Entry cell length frame →

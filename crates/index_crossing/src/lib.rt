@@ -3,12 +3,14 @@ ghost use mathlib.Core.List.{[], _∷_};
 ghost use Rattle.arena.specs.Memory.{saidCleared, saidMeasured};
 ghost use Rattle.audit.specs.Audit.{saidAudited};
 ghost use Rattle.index.specs.Answers.{saidAdded, saidRemoved, saidFound, saidListed};
+ghost use Rattle.index_count.specs.Answers.{saidCounted};
 ghost use Rattle.crossing.specs.Crossing.{Crossed};
 ghost use Rattle.index_crossing.specs.Told.{CrossedTold};
 use arena::Cleared;
 use arena::Measured;
 use audit::Audited;
 use index::Added;
+use index::Counted;
 use index::Found;
 use index::Listed;
 use index::Removed;
@@ -82,6 +84,19 @@ pub fn give_found(answer: Found, frame: &mut u64) -> u64
             0
         }
         Found::Refused(why) => refusal::number(why),
+    }
+}
+
+// Writes the number of entries and returns 0; refused, writes nothing and returns the number.
+pub fn give_counted(answer: Counted, count: &mut u64) -> u64
+    ensures { λ r. ⌜ Crossed (saidCounted answer) r (now (count .entry) ∷ []) (now (count .exit) ∷ []) ⌝ }
+{
+    match answer {
+        Counted::Entries(n) => {
+            *count = n;
+            0
+        }
+        Counted::Refused(why) => refusal::number(why),
     }
 }
 

@@ -22,11 +22,11 @@ module _ (nodes cells bytes : List ℕ) {t : Bool} (e : t ≡ isTree (memory nod
 
   -- where a stored key leads
   module _ {r : Met} (w : Within (nodeCount (length nodes)) (cellCount (length cells)) r) {leaf p c : ℕ} (s : r ≡ Stored leaf p c) where
-    -- what `take_entry` and `free_cell` ask
-    pub stored-entry : (length nodes ≤ 11987) × (leaf < 255) × (p < 15)
+    -- what `take_counted` and `free_cell` ask
+    pub stored-entry : (length nodes ≤ 11987) × (leaf < 255) × (p < 15) × (1 < length nodes)
     stored-entry =
         let h = stored-within _ _ w s in
-        (omega (arith, right .n-high, right .nodes-whole), omega (arith, h .0, right .n-high), h .1)
+        (omega (arith, right .n-high, right .nodes-whole), omega (arith, h .0, right .n-high), h .1, omega (arith, right .n-low, right .nodes-whole))
 
     pub stored-cell : (cellStart c + 2 ≤ length cells) × (keyStart c + 256 ≤ length bytes)
     stored-cell = let h = stored-within _ _ w s in

@@ -1,7 +1,11 @@
 // Remove, a change of the label index in lent memory: it judges the whole of lent memory first, and where it is refused every word and
 // byte is as it was.
 ghost use mathlib.Core.Path.{_≡_};
+ghost use Prim.Native.Nat.{_-_, _≤_, _<_};
+ghost use lib.ListN.{length, getD, set};
+ghost use Rattle.memory_layout.specs.Numbers.{mostLent, mostNodeWords};
 ghost use Rattle.arena.specs.Memory.{memory, did};
+ghost use Rattle.model.specs.Leaves.{entryTaken};
 ghost use Rattle.model.specs.Calls.{removed};
 ghost use Rattle.index_remove.specs.Answers.{saidRemoved};
 use memory_layout::CELL_BYTES;
@@ -17,7 +21,27 @@ pub enum Removed {
     Refused(Refusal),
 }
 
-// Takes a key away: its entry goes, and its cell is free again.
+// Takes the entry at a position of a leaf away, and counts one less.
+fn take_counted(nodes: &mut [u64], leaf: usize, position: usize)
+    requires { ⌜ (length (now nodes) ≤ mostNodeWords) × (leaf < mostLent) × (position < 15) × (1 < length (now nodes)) ⌝ }
+    ensures { λ _. ⌜ now (nodes .exit) ≡ set (entryTaken (now (nodes .entry)) leaf position) 1 (getD (now (nodes .entry)) 1 0 - 1) ⌝ }
+{
+    let less = one_less(nodes[1]);
+    edit::inside::take_entry(nodes, leaf, position);
+    edit::inside::put_at(nodes, 1, less);
+}
+
+// One less; 0 where it is 0.
+fn one_less(n: u64) -> u64
+    ensures { λ r. ⌜ r ≡ n - 1 ⌝ }
+{
+    if n < 1 {
+        return 0;
+    }
+    n - 1
+}
+
+// Takes a key away: its entry goes, its cell is free again, and one entry less is counted.
 pub fn remove(nodes: &mut [u64], cells: &mut [u64], bytes: &mut [u8], key: &[u8]) -> Removed
     ensures { λ r. ⌜ did (saidRemoved r) (memory (now (nodes .exit)) (now (cells .exit)) (now (bytes .exit)))
         ≡ removed (memory (now (nodes .entry)) (now (cells .entry)) (now (bytes .entry))) (now (key .entry)) ⌝ }
@@ -34,7 +58,7 @@ pub fn remove(nodes: &mut [u64], cells: &mut [u64], bytes: &mut [u8], key: &[u8]
         position,
         cell,
     } = met {
-        edit::inside::take_entry(nodes, leaf as usize, position);
+        take_counted(nodes, leaf as usize, position);
         arena::inside::free_cell(cells, bytes, cell as usize);
         return Removed::Done;
     }

@@ -50,7 +50,7 @@ module _ (m : Memory) (words : (i : ℕ) → getD (m .cells) i 0 < 2 ^ 64) where
         arith,
         length-append (headerLine n) (entryTexts m (inKeyOrder m)),
         header-length n,
-        few-255 m v t,
-        decimal-short 2 n (omega (arith, few-255 m v t)),
-        entries-fit (keys-short m v t),
+        few-255 m v (t .forest),
+        decimal-short 2 n (omega (arith, few-255 m v (t .forest))),
+        entries-fit (keys-short m v (t .forest)),
       )

@@ -37,7 +37,7 @@ listing-text m =
 pub list-prints : (m : Memory) (v : Layers) → IsTree m v → printed m list ≡ mapText (listing m v)
 unfolding printed listed
 list-prints m v t =
-    rw (is-true (isTree m) (tree-accepted m v t)) (listing-text m ∙ ap mapText (cells-listed m v t))
+    rw (is-true (isTree m) (tree-accepted m v t)) (listing-text m ∙ ap mapText (cells-listed m v (t .forest)))
 
 pub list-leaves : (m : Memory) → left m list ≡ m
 unfolding left

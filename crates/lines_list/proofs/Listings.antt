@@ -1,30 +1,33 @@
 -- The listing: how many entries there are, and a line for each, by what the index says of the k-th. Assumes nothing.
-use Prim.Native.Nat.{ℕ, suc, _+_, _-_, _*_, _≤_, _<_}
+use Prim.Native.Nat.{ℕ, _+_, _-_, _*_, _≤_, _<_}
 use mathlib.Core.Path.{_≡_, refl, ap, sym, _∙_}
-use mathlib.Core.Bool.{Bool, true, false, not, cond}
+use mathlib.Core.Bool.{Bool, true, false, not}
 use mathlib.Core.List.{List, [], _∷_, _++_, append-assoc, append-nil}
 use native.Mathlib.Numerals.{add-one}
 use native.Mathlib.Omega.{arith}
 use lib.Dec.{ltb}
 use lib.ListN.{length, getD, take, length-append}
-use lib.Seq.{take-suc, take-all, take-append-le}
+use lib.Seq.{take-suc, take-all}
 use lib.ListN.{take-append-drop, drop}
 use borrow.Author.Tests.{ltb-true, ltb-false, lt-ltb, not-true, not-false}
 use Rattle.refusal.specs.declared.Refusal.{Refusal}
-use Rattle.refusal.specs.Refusals.{numberOf}
 use Rattle.refusal.specs.Answer.{Answer, accepted}
 use Rattle.refusal.proofs.Laws.{number-pos}
 use Rattle.arena.specs.Parts.{part}
-use Rattle.arena.specs.Layout.{keyAt, markAt, frameAt}
-use Rattle.arena.specs.Memory.{Memory}
+use Rattle.arena.specs.Layout.{markAt, frameAt}
+use Rattle.arena.specs.Memory.{Memory, memory}
+use Rattle.arena.proofs.Measures.{and-true, right-means}
+use Rattle.bank.proofs.Tests.{holds}
 use Rattle.forest.specs.Walk.{isTree}
+use Rattle.forest.proofs.Accepts.{tree-found}
+use Rattle.views.proofs.Few.{in-order-listed}
 use Rattle.model.specs.Calls.{kthSaid, inKeyOrder, entryOf}
 use Rattle.index_questions.specs.declared.Listed.{Listed}
 use Rattle.index_questions.specs.declared.Listed.the-variants as listed-is
 use Rattle.index_questions.specs.Answers.{saidListed}
-use Rattle.page.specs.Shown.{headerLine, refusedLine, entryLine, decimal, keyShown}
+use Rattle.page.specs.Shown.{headerLine, refusedLine, entryLine}
 use Rattle.page.specs.Page.{Typed}
-use Rattle.page.proofs.Pages.{typed-none, typed-then, entry-length}
+use Rattle.page.proofs.Pages.{typed-none, typed-then}
 use Rattle.text.proofs.Keys.{decide}
 use Rattle.lines_said.specs.Said.{entryText, entryTexts, listing, listed}
 use Rattle.lines_list.specs.Room.{Room}
@@ -62,15 +65,17 @@ module _ (m : Memory) (k : ℕ) (tree : isTree m ≡ true) (x : Listed) (e : sai
       let z = ap (λ (a : Answer). a .values) (sym (ap saidListed d) ∙ number-there (kth-there d)) in
       (ap (λ (l : List ℕ). getD l 0 0) z, ap (λ (l : List ℕ). getD l 1 0) z, ap (λ (l : List ℕ). getD l 2 0) z)
 
--- ---- counting
+-- ---- how many there are: word 1, one of the words before the nodes
 
-module _ (m : Memory) (k most : ℕ) where
-  pub count-done : {x : Listed} {why : Refusal} → isTree m ≡ true → saidListed x ≡ kthSaid m k → x ≡ listed-is.Refused why
-      → k ≤ length (inKeyOrder m) → k ≡ length (inKeyOrder m)
-  count-done {x} tree e d h = omega (arith, kth-gone m k tree x e d)
+module _ (nodes cells bytes : List ℕ) (tree : isTree (memory nodes cells bytes) ≡ true) where
+  pub header-in : (i : ℕ) → i < 2 → i < length nodes
+  unfolding isTree
+  header-in i h = let right = right-means _ _ _ (and-true _ _ tree .0) in omega (arith, right .n-low, right .nodes-whole)
 
-  pub count-more : {x : Listed} {c l f : ℕ} → isTree m ≡ true → saidListed x ≡ kthSaid m k → x ≡ listed-is.Entry c l f → k + 1 ≤ length (inKeyOrder m)
-  count-more {x} tree e d = omega (arith, kth-there m k tree x e d)
+  pub count-is : getD nodes 1 0 ≡ length (inKeyOrder (memory nodes cells bytes))
+  count-is =
+      let (v, t) = tree-found (memory nodes cells bytes) (holds tree) in
+      t .counted ∙ sym (in-order-listed (memory nodes cells bytes) v (t .forest))
 
 -- ---- the lines
 
@@ -89,15 +94,6 @@ texts-some : (m : Memory) (cs : List ℕ) (k : ℕ) → length (entryTexts m (ta
 texts-some m cs k =
     let e = ap length (ap (entryTexts m) (sym (take-append-drop k cs)) ∙ texts-append m (take k cs) (drop k cs)) in
     omega (arith, e, length-append (entryTexts m (take k cs)) (entryTexts m (drop k cs)))
-
--- each line has a byte at least
-texts-count : (m : Memory) (cs : List ℕ) → length cs ≤ length (entryTexts m cs)
-unfolding entryTexts
-texts-count m [] = omega arith
-texts-count m (c ∷ cs) =
-    let l = length-append (entryText m c) (entryTexts m cs) in
-    let n = entry-length (keyAt (m .cells) (m .bytes) c) (frameAt (m .cells) c) in
-    omega (arith, texts-count m cs)
 
 module _ (m : Memory) (at k : ℕ) (tree : isTree m ≡ true) {x : Listed} (e : saidListed x ≡ kthSaid m k) {c l f : ℕ} (d : x ≡ listed-is.Entry c l f)
     (key : List ℕ) (ek : key ≡ part (m .bytes) (c * 256) l) where
@@ -146,11 +142,6 @@ module _ (m : Memory) {b : Bool} (e : b ≡ isTree m) where
   listed-is' : not b ≡ false → listed m ≡ headerLine (length (inKeyOrder m)) ++ entryTexts m (inKeyOrder m)
   unfolding listed listing
   listed-is' n = rw (tree-is n)
-
-  pub few : {out : List ℕ} → not b ≡ false → Room m out → length (inKeyOrder m) ≤ length out
-  few n room =
-      let l = ap length (listed-is' n) ∙ length-append (headerLine (length (inKeyOrder m))) (entryTexts m (inKeyOrder m)) in
-      omega (arith, texts-count m (inKeyOrder m), room .long)
 
   module _ {n : ℕ} (t : not b ≡ false) (en : n ≡ length (inKeyOrder m)) {out : List ℕ} (room : Room m out) where
     whole : 0 + length (headerLine n ++ entryTexts m (inKeyOrder m)) ≤ length out

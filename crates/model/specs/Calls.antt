@@ -8,9 +8,10 @@ use Rattle.memory_layout.specs.Numbers.{classesFrom, cellBytes}
 use Rattle.refusal.specs.Answer.{Answer, Rule, _unless_, _telling_, answered}
 use Rattle.arena.specs.Layout.{nodeStart, rootOf, markAt, frameAt, keyAt, putCell, putKey, freedCell, freedKey}
 use Rattle.arena.specs.Free.{freeNodes, freeCells}
-use Rattle.arena.specs.Memory.{Memory, memory, nodeCount, cellCount, Did, did}
+use Rattle.arena.specs.Memory.{Memory, memory, nodeCount, cellCount, rightLengths, Did, did}
 use Rattle.bank.specs.Bank.{slotAt}
 use Rattle.order.specs.Layer.{ikeyAt}
+pub use Rattle.forest.specs.Count.{countOf}
 use Rattle.forest.specs.Nodes.{slotsAt}
 use Rattle.forest.specs.Walk.{heightAt, isTree}
 use Rattle.model.specs.declared.Met.{Met}
@@ -74,6 +75,17 @@ unfoldable pub kthSaid : Memory → ℕ → Answer
 kthSaid m k =
     answered ((10 unless isTree m) ∷ (12 unless ltb k (length (inKeyOrder m))) ∷ []) (entryOf m (getD (inKeyOrder m) k 0)) []
 
+-- ---- the count of entries
+
+-- count: the number as it is stored; 10 for wrong lent lengths only
+unfoldable pub countSaid : Memory → Answer
+countSaid m =
+    answered ((10 unless rightLengths (length (m .nodes)) (length (m .cells)) (length (m .bytes))) ∷ []) (countOf m ∷ []) []
+
+-- memory with another number of entries stored
+abbrev pub withCount : Memory → ℕ → Memory
+withCount m n = memory (set (m .nodes) 1 n) (m .cells) (m .bytes)
+
 -- ---- remove
 
 -- memory without the entry at a place, and its cell free
@@ -91,9 +103,10 @@ whenAccepted a after before = cond (eqb (a .number) 0) after before
 abbrev pub removeSaid : Memory → List ℕ → Answer
 removeSaid m key = answered (keyRules m key ((12 unless stored m key) ∷ [])) [] []
 
--- what remove answers, and the memory that it leaves
+-- what remove answers, and the memory that it leaves: without the entry, and one less counted
 unfoldable pub removed : Memory → List ℕ → Did
-removed m key = did (removeSaid m key) (whenAccepted (removeSaid m key) (without m (place m key)) m)
+removed m key =
+    did (removeSaid m key) (whenAccepted (removeSaid m key) (withCount (without m (place m key)) (countOf m - 1)) m)
 
 -- ---- put
 
@@ -158,6 +171,7 @@ putSaid m key =
     ((11 unless not (stored m key)) ∷ (13 unless hasCell m) ∷ ((14 unless hasNodes m key) telling (lacking m key ∷ [])) ∷ []))
     [] []
 
--- what put answers, and the memory that it leaves
+-- what put answers, and the memory that it leaves: with the entry, and one more counted
 unfoldable pub putDone : Memory → List ℕ → ℕ → Did
-putDone m key frame = did (putSaid m key) (whenAccepted (putSaid m key) (with m key frame) m)
+putDone m key frame =
+    did (putSaid m key) (whenAccepted (putSaid m key) (withCount (with m key frame) (countOf m + 1)) m)

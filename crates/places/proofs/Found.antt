@@ -12,7 +12,7 @@ use Rattle.order.specs.Map as order
 use Rattle.arena.specs.Layout as layout
 use Rattle.arena.specs.Layout.{markAt, frameAt, keyAt}
 use Rattle.arena.specs.Memory.{Memory}
-use Rattle.forest.specs.IsTree.{Layers, IsTree, listing}
+use Rattle.forest.specs.IsTree.{Layers, Forest, listing}
 use Rattle.model.specs.Calls.{place, stored, isStored, frameOf}
 use Rattle.model.specs.declared.Met.{Met}
 use Rattle.model.specs.declared.Met.the-variants.{Stored, Conflict, Missing}
@@ -131,7 +131,7 @@ way-key m K (below l v ks holder lf p x o q E rest) t = way-key m K rest t
 
 -- ---- find, and the listing
 
-module _ (m : Memory) (v : Layers) (t : IsTree m v) (bytes : Bytes (m .bytes)) where
+module _ (m : Memory) (v : Layers) (t : Forest m v) (bytes : Bytes (m .bytes)) where
   abbrev its-view : Layered 31
   its-view = layerView 31 v
 

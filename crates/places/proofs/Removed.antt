@@ -15,7 +15,7 @@ use Rattle.arena.specs.Layout.{markAt, keyAt, freedCell, freedKey}
 use Rattle.arena.specs.Free.{freeNodes}
 use Rattle.arena.specs.Memory.{Memory, memory, nodeCount, cellCount}
 use Rattle.forest.specs.Nodes.{entriesAt, leafRight}
-use Rattle.forest.specs.IsTree.{Layers, IsTree, listing}
+use Rattle.forest.specs.IsTree.{Layers, Forest, listing}
 use Rattle.model.specs.Leaves.{entryTaken}
 use Rattle.model.specs.Calls.{place, stored, isStored}
 use Rattle.model.specs.Calls as calls
@@ -101,7 +101,6 @@ module _ (m : Memory) (sound : Sound m) (lf p c : ℕ) (inside : c < cellsIn m) 
   pub after-sound : Sound after
   after-sound = record {
     lent = rw (nodes-as-long, cells-as-long, bytes-as-long) (sound .lent);
-    kept-zero = node-taken .head 1 (omega arith) ∙ sound .kept-zero;
     nodes-sound = λ k h. node-taken .still .sound k (rw (← as-many-nodes) h);
     cells-sound = λ j h. freed-sound (m .cells) (m .bytes) (cellsIn m) (lengths m (sound .lent) .cells-whole)
         (lengths m (sound .lent) .bytes-whole) c inside (sound .cells-sound) j (rw (← as-many-cells) h);
@@ -124,7 +123,7 @@ module _ (m : Memory) (sound : Sound m) (lf p c : ℕ) (inside : c < cellsIn m) 
 
 -- ---- remove
 
-module _ (m : Memory) (v : Layers) (t : IsTree m v) (bytes : Bytes (m .bytes)) (K : List ℕ) (b : Bytes K) where
+module _ (m : Memory) (v : Layers) (t : Forest m v) (bytes : Bytes (m .bytes)) (K : List ℕ) (b : Bytes K) where
   abbrev w : Layered 31
   w = layerView 31 v
 
@@ -139,7 +138,7 @@ module _ (m : Memory) (v : Layers) (t : IsTree m v) (bytes : Bytes (m .bytes)) (
 
   -- a tree that lists what memory does without the key
   abbrev pub Less : Memory → Type 0
-  Less after = (u : Layers) × IsTree after u × (listing after u ≡ delete bytewise K (listing m v)) × Bytes (after .bytes)
+  Less after = (u : Layers) × Forest after u × (listing after u ≡ delete bytewise K (listing m v)) × Bytes (after .bytes)
 
   -- the trees' search finds the cell of the place
   found-cell : (o : Met) → Way m K 31 (layerView 31 v) [] 0 o

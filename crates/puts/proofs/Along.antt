@@ -15,7 +15,7 @@ use Rattle.order.proofs.Lookup.{lookup-new}
 use Rattle.arena.specs.Layout as layout
 use Rattle.arena.specs.Layout.{markAt, keyAt}
 use Rattle.arena.specs.Memory.{Memory}
-use Rattle.forest.specs.IsTree.{Layers, IsTree, listing}
+use Rattle.forest.specs.IsTree.{Layers, Forest, listing}
 use Rattle.model.specs.Calls.{place, stored, neededAt, nodesWith}
 use Rattle.trees.specs.Nodes.{NodeList}
 use Rattle.trees.specs.FreeNumbers.{freeNumbers, timesIn}
@@ -42,7 +42,7 @@ none-of : {A : Type 0} (o : Option A) → isSome o ≡ false → o ≡ none
 none-of none e = refl
 none-of (some x) e = let z : _≡_ {A = ℕ} 0 1 = cc in absurd (omega arith)
 
-module _ (m : Memory) (v : Layers) (t : IsTree m v) (bytes : Bytes (m .bytes)) (K : List ℕ) (b : Bytes K) (short : length K ≤ 256)
+module _ (m : Memory) (v : Layers) (t : Forest m v) (bytes : Bytes (m .bytes)) (K : List ℕ) (b : Bytes K) (short : length K ≤ 256)
     (absent : stored m K ≡ false) where
   abbrev w : Layered 31
   w = layerView 31 v

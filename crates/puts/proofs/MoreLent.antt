@@ -19,10 +19,11 @@ use Rattle.arena.specs.Layout.{nodeStart, wordAt}
 use Rattle.arena.specs.Memory.{Memory, nodeCount, rightLengths}
 use Rattle.arena.proofs.Words.{lt-or-ge}
 use Rattle.arena.proofs.Measures.{Right, right-means, right-if, counts-follow}
+use Rattle.forest.specs.Count.{countOf}
 use Rattle.forest.specs.Nodes.{allZero, leafRight, internodeRight, nodeFree, entriesAt}
 use Rattle.forest.specs.Trees.{Tree, Holds, nodeNo, seenAs}
 use Rattle.forest.specs.Layers.{Value, Layer, HeldBy, Held, reached}
-use Rattle.forest.specs.IsTree.{Layers, IsTree, listing}
+use Rattle.forest.specs.IsTree.{Layers, Forest, IsTree, listing}
 use Rattle.forest.proofs.Inside.{leaf-inside, internode-inside}
 use Rattle.forest.proofs.Cleared.{part-zero}
 use Rattle.model.specs.Calls.{stored, needed, nodesOf, cellsOf}
@@ -86,7 +87,7 @@ module _ (nodes : List ℕ) (N : ℕ) (whole : length nodes ≡ 2 + N * 47) (k :
 
 -- ---- the whole
 
-module _ (m : Memory) (v : Layers) (t : IsTree m v) (k : ℕ) (few : nodesOf m + k ≤ 255) where
+module _ (m : Memory) (v : Layers) (t : Forest m v) (k : ℕ) (few : nodesOf m + k ≤ 255) where
   abbrev N : ℕ
   N = nodesOf m
 
@@ -108,11 +109,10 @@ module _ (m : Memory) (v : Layers) (t : IsTree m v) (k : ℕ) (few : nodesOf m +
   first-words i h = List·getD-append (m .nodes) (zeros (k * 47)) 0 i (omega (arith, before .nodes-whole))
 
   -- memory with free nodes more is the same tree
-  pub more-lent : IsTree (lentMore m k) v
+  pub more-lent : Forest (lentMore m k) v
   more-lent = record {
     lent = holds (right-if _ _ _ _ _ after);
     rooted = first-words 0 (omega arith) ∙ t .rooted;
-    kept-zero = first-words 1 (omega arith) ∙ t .kept-zero;
     held = held-longer (m .nodes) N (before .nodes-whole) k 31 v (t .held);
     in-edges = t .in-edges;
     at-most-once = t .at-most-once;
@@ -121,6 +121,10 @@ module _ (m : Memory) (v : Layers) (t : IsTree m v) (k : ℕ) (few : nodesOf m +
         (λ g. free-now (m .nodes) N (before .nodes-whole) k j g) (lt-or-ge j N);
     other-cells = t .other-cells;
   }
+
+  -- with as many entries counted
+  pub more-counted : countOf m ≡ length (listing m v) → IsTree (lentMore m k) v
+  more-counted e = record { forest = more-lent; counted = first-words 1 (omega arith) ∙ e }
 
   -- and a put of a new key needs as many nodes
   pub same-need : Bytes (m .bytes) → (key : List ℕ) → Bytes key → length key ≤ 256 → stored m key ≡ false

@@ -19,7 +19,7 @@ use Rattle.arena.specs.Layout.{markAt, keyAt}
 use Rattle.arena.specs.Memory.{Memory}
 use Rattle.forest.specs.Trees.{Key, Tree}
 use Rattle.forest.specs.Layers.{Value, Layer}
-use Rattle.forest.specs.IsTree.{Layers, IsTree}
+use Rattle.forest.specs.IsTree.{Layers, Forest}
 use Rattle.model.specs.Calls.{stored, needed}
 use Rattle.model.specs.Needed.{bothGoOn, layersOf}
 use Rattle.trees.specs.Nodes.{IkeyClass, layerOrder, NodeList}
@@ -244,7 +244,7 @@ module _ (m : Memory) (sound : Sound m) (at : ℕ → List ℕ × ℕ) (c : ℕ)
 
 -- ---- the whole, with the new key in a cell beyond those lent
 
-module _ (m : Memory) (v : Layers) (t : IsTree m v) (bytes : Bytes (m .bytes)) (K : List ℕ) (b : Bytes K) (short : length K ≤ 256)
+module _ (m : Memory) (v : Layers) (t : Forest m v) (bytes : Bytes (m .bytes)) (K : List ℕ) (b : Bytes K) (short : length K ≤ 256)
     (absent : stored m K ≡ false) where
   abbrev beyond : ℕ
   beyond = cellsIn m

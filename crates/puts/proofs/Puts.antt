@@ -18,7 +18,7 @@ use Rattle.arena.specs.Free.{isFree, freeNodes, freeCells}
 use Rattle.arena.specs.Memory.{Memory, memory, nodeCount, cellCount}
 use Rattle.arena.proofs.Frees.{first-passing}
 use Rattle.arena.proofs.Measures.{and-true}
-use Rattle.forest.specs.IsTree.{Layers, IsTree, listing}
+use Rattle.forest.specs.IsTree.{Layers, Forest, listing}
 use Rattle.model.specs.Calls.{nodesOf, cellsOf, place, stored, neededAt, needed, hasRoom, freshCell, nodesWith, with}
 use Rattle.trees.specs.Nodes.{NodeList}
 use Rattle.trees.specs.FreeNumbers.{freeNumbers, timesIn}
@@ -91,7 +91,6 @@ module _ (m : Memory) (sound : Sound m) (c : ℕ) (inside : c < cellsIn m) (K : 
   after-sound : Sound after
   after-sound = record {
     lent = rw (nodes-as-long, cells-as-long, bytes-as-long) (sound .lent);
-    kept-zero = R .second ∙ sound .kept-zero;
     nodes-sound = λ k h. R .still .sound k (rw (← as-many-nodes) h);
     cells-sound = λ j h. put-sound (m .cells) (m .bytes) (cellsIn m) (lengths m (sound .lent) .cells-whole)
         (lengths m (sound .lent) .bytes-whole) c inside K short frame (sound .cells-sound) j (rw (← as-many-cells) h);
@@ -113,7 +112,7 @@ module _ (m : Memory) (sound : Sound m) (c : ℕ) (inside : c < cellsIn m) (K : 
 
 -- ---- put
 
-module _ (m : Memory) (v : Layers) (t : IsTree m v) (bytes : Bytes (m .bytes)) (K : List ℕ) (b : Bytes K) (short : length K ≤ 256)
+module _ (m : Memory) (v : Layers) (t : Forest m v) (bytes : Bytes (m .bytes)) (K : List ℕ) (b : Bytes K) (short : length K ≤ 256)
     (frame : ℕ)
     (absent : stored m K ≡ false) (room : hasRoom m K ≡ true) where
   abbrev w : Layered 31
@@ -222,7 +221,7 @@ module _ (m : Memory) (v : Layers) (t : IsTree m v) (bytes : Bytes (m .bytes)) (
 
   -- a tree that lists what memory does, with the key and its frame number
   abbrev pub More : Memory → Type 0
-  More after = (u : Layers) × IsTree after u × (listing after u ≡ insert bytewise K frame (listing m v)) × Bytes (after .bytes)
+  More after = (u : Layers) × Forest after u × (listing after u ≡ insert bytewise K frame (listing m v)) × Bytes (after .bytes)
 
   pub put-tree : More (with m K frame)
   put-tree =

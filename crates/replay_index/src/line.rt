@@ -4,6 +4,7 @@ ghost use Prim.Native.Nat.{_≤_};
 use crate::sum;
 use arena::Cleared;
 use index::Added;
+use index::Counted;
 use index::Found;
 use index::Listed;
 use index::Removed;
@@ -27,7 +28,7 @@ fn frame(text: &[u8]) -> u64 {
     hex::sixteen(text, 3)
 }
 
-// The other number of the line: the k of a k-th entry, or the nodes that a put lacks.
+// The other number of the line: the k of a k-th entry, the nodes that a put lacks, or the number of entries.
 fn other(text: &[u8]) -> u64 {
     hex::sixteen(text, 19)
 }
@@ -87,6 +88,9 @@ fn says(nodes: &mut [u64], cells: &mut [u64], bytes: &mut [u8], key: &[u8], text
     if which == b'd' {
         return removed_number(index::remove(nodes, cells, bytes, key)) == number(text);
     }
+    if which == b'n' {
+        return counted(index::count(nodes, cells, bytes), text);
+    }
     if which == b'f' {
         return found(index::find(nodes, cells, bytes, key), text);
     }
@@ -120,6 +124,14 @@ fn removed_number(answer: Removed) -> u64 {
     match answer {
         Removed::Done => 0,
         Removed::Refused(why) => refusal::number(why),
+    }
+}
+
+// Whether a count says what the line has.
+fn counted(answer: Counted, text: &[u8]) -> bool {
+    match answer {
+        Counted::Entries(n) => number(text) == 0 && n == other(text),
+        Counted::Refused(why) => refusal::number(why) == number(text),
     }
 }
 

@@ -1,7 +1,7 @@
 -- What a put writes: a law for each way in which the code returns. Assumes nothing.
 use mathlib.Core.Path.{_≡_, sym, ap, _∙_}
 use mathlib.Core.List.{List}
-use Prim.Native.Nat.{ℕ, _+_, _*_, _-_, _/_, _≤_}
+use Prim.Native.Nat.{ℕ, _+_, _*_, _-_, _/_, _≤_, _<_}
 use native.Mathlib.Numerals.{add-one}
 use native.Mathlib.Omega.{arith}
 use borrow.Author.Needs.{needs}
@@ -11,13 +11,13 @@ use Rattle.leaf_entries.specs.declared.Entry.{Entry}
 use Rattle.leaf.specs.Leaf.{slotsOf}
 use Rattle.arena.specs.Layout.{nodeStart, keyAt, putCell, putKey}
 use Rattle.arena.specs.Free.{freeCells}
-use Rattle.arena.specs.Memory.{memory, cellCount}
+use Rattle.arena.specs.Memory.{Memory, memory, cellCount}
 use Rattle.forest.specs.Nodes.{slotsAt}
 use Rattle.model.specs.declared.Met.{Met}
 use Rattle.model.specs.declared.Met.the-variants.{Stored, Conflict, Missing}
 use Rattle.model.specs.Meet.{numberWord}
 use Rattle.model.specs.Grow.{entryFor, layerGrown, layersGrown}
-use Rattle.model.specs.Calls.{nodesWith}
+use Rattle.model.specs.Calls.{nodesWith, withCount}
 use Rattle.store.specs.Places.{withAt, Lent}
 use Rattle.store.proofs.Counting.{counted}
 
@@ -61,5 +61,15 @@ module _ (nodes cells bytes key : List ℕ) (frame : ℕ) (met : Met) where
       → n1 ≡ nodesWith (memory nodes cells bytes) key c met → c1 ≡ putCell cells c (length key) frame → b1 ≡ putKey bytes c key
       → memory n1 c1 b1 ≡ withAt (memory nodes cells bytes) key frame met
   put-all e en ec eb = rw (en, ec, eb, e)
+
+  -- and one more counted
+  pub put-count : {count : ℕ} {n1 c1 b1 n2 : List ℕ} → count ≡ getD nodes 1 0
+      → memory n1 c1 b1 ≡ withAt (memory nodes cells bytes) key frame met → n2 ≡ set n1 1 (count + 1)
+      → memory n2 c1 b1 ≡ withCount (withAt (memory nodes cells bytes) key frame met) (getD nodes 1 0 + 1)
+  put-count {count} e em en = rw (en, e) (ap (λ (m : Memory). withCount m (getD nodes 1 0 + 1)) em)
+
+  -- word 1 stands in memory
+  pub count-in : Lent nodes cells bytes met → 1 < length nodes
+  count-in l = omega (arith, l .nodes-lent .whole, l .one-node)
 
 pub ruleset writing = (needs, link-put, link-word, put-conflict, put-missing, put-stored-none, put-all)

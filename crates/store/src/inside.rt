@@ -3,14 +3,15 @@
 ghost use mathlib.Core.Path.{_≡_};
 ghost use Prim.Native.Nat.{_+_, _≤_, _<_};
 ghost use lib.ListN.{length, getD, set};
-ghost use Rattle.memory_layout.specs.Numbers.{classesFrom};
+ghost use Rattle.memory_layout.specs.Numbers.{classesFrom, mostLent};
 ghost use Rattle.bank.specs.Bank.{slotAt};
 ghost use Rattle.arena.specs.Layout.{nodeStart, keyAt};
 ghost use Rattle.arena.specs.Free.{freeCells};
 ghost use Rattle.arena.specs.Memory.{memory, nodeCount, cellCount};
 ghost use Rattle.forest.specs.Nodes.{slotsAt};
 ghost use Rattle.model.specs.Meet.{numberWord};
-ghost use Rattle.model.specs.Calls.{neededAt, nodesWith};
+ghost use Rattle.forest.specs.Count.{countOf};
+ghost use Rattle.model.specs.Calls.{neededAt, nodesWith, withCount};
 ghost use Rattle.seek.specs.Lengths.{NodesLent, CellsLent};
 ghost use Rattle.store.specs.Places.{hasCellIn, lackingAt, withAt, Lent};
 use arena::inside::Lowest;
@@ -154,14 +155,7 @@ fn put_nodes(nodes: &mut [u64], cells: &[u64], bytes: &[u8], key: &[u8], c: u64,
 }
 
 // Puts the key's entry into the nodes, and the key with its frame number into the lowest free cell.
-pub fn put_new(
-    nodes: &mut [u64],
-    cells: &mut [u64],
-    bytes: &mut [u8],
-    key: &[u8],
-    frame: u64,
-    met: Met,
-)
+fn put_new(nodes: &mut [u64], cells: &mut [u64], bytes: &mut [u8], key: &[u8], frame: u64, met: Met)
     requires { ⌜ Lent (now nodes) (now cells) (now bytes) met × (length (now key) ≤ 256) ⌝ }
     ensures { λ _. ⌜ memory (now (nodes .exit)) (now (cells .exit)) (now (bytes .exit))
         ≡ withAt (memory (now (nodes .entry)) (now (cells .entry)) (now (bytes .entry))) (now (key .entry)) frame met ⌝ }
@@ -169,4 +163,23 @@ pub fn put_new(
     let c = lowest_cell(cells);
     put_nodes(nodes, cells, bytes, key, c as u64, met);
     arena::inside::store_cell(cells, bytes, c, key, frame);
+}
+
+// The same, and one entry more is counted.
+pub fn put_counted(
+    nodes: &mut [u64],
+    cells: &mut [u64],
+    bytes: &mut [u8],
+    key: &[u8],
+    frame: u64,
+    met: Met,
+)
+    requires { ⌜ Lent (now nodes) (now cells) (now bytes) met × (length (now key) ≤ 256) × (getD (now nodes) 1 0 ≤ mostLent) ⌝ }
+    ensures { λ _. ⌜ memory (now (nodes .exit)) (now (cells .exit)) (now (bytes .exit))
+        ≡ withCount (withAt (memory (now (nodes .entry)) (now (cells .entry)) (now (bytes .entry))) (now (key .entry)) frame met)
+        (countOf (memory (now (nodes .entry)) (now (cells .entry)) (now (bytes .entry))) + 1) ⌝ }
+{
+    let count = nodes[1];
+    put_new(nodes, cells, bytes, key, frame, met);
+    edit::inside::put_at(nodes, 1, count + 1);
 }

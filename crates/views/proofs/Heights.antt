@@ -13,7 +13,7 @@ use Rattle.arena.proofs.Words.{lt-or-ge}
 use Rattle.forest.specs.Nodes.{childrenAt}
 use Rattle.forest.specs.Trees.{Tree, topOf, nodeNo, nodesOf, Holds, Bounded}
 use Rattle.forest.specs.Layers.{rootOf}
-use Rattle.forest.specs.IsTree.{Layers, IsTree}
+use Rattle.forest.specs.IsTree.{Layers, Forest}
 use Rattle.forest.specs.Walk.{heightAt}
 use Rattle.forest.proofs.Heights.{height-found, not-high}
 use Rattle.trees.specs.Nodes.{IkeyClass, free, leaf, internode, NodeList, nodeIn}
@@ -101,7 +101,7 @@ module _ (m : Memory) (whole : length (m .nodes) ≡ 2 + nodesIn m * 47) where
         ∙ sym (heightFrom-is Pointer 15 (nodesView m) d (length (nodesView m)) deep 0 (t .1) (has .1) low)
 
 -- the root of the whole
-pub height-view : (m : Memory) (v : Layers) → IsTree m v
+pub height-view : (m : Memory) (v : Layers) → Forest m v
     → heightAt (m .nodes) 255 (rootOf v) ≡ heightFrom (length (nodesView m)) (nodesView m) (rootOf v)
 height-view m v t =
     let right = lengths m (t .lent) in

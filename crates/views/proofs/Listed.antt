@@ -18,7 +18,7 @@ use Rattle.forest.specs.Cells.{cellRight, filed}
 use Rattle.forest.specs.Trees.{Key, Ref, Tree, topOf, entriesOf, Holds, leftmost, rightmost}
 use Rattle.forest.specs.Layers.{Value, Layer, rootOf, refOf, reachedBy, reached, HeldBy, Held, InEdgesBy, InEdges, FiledBy, Filed, listedBy}
 use Rattle.forest.specs.Layers.{listed}
-use Rattle.forest.specs.IsTree.{Layers, IsTree, listing}
+use Rattle.forest.specs.IsTree.{Layers, Forest, listing}
 use Rattle.forest.specs.Walk.{heightAt}
 use Rattle.model.specs.Listed.{cellsOf, cellsOfLeaf, cellsOfNode, cellsOfOne, cellsOfLayer}
 use Rattle.views.proofs.Lists.{flattened-map, map-flattened, flattened-all}
@@ -141,7 +141,7 @@ module _ (cells bytes : List ℕ) where
 
 -- ---- the whole
 
-module _ (m : Memory) (v : Layers) (t : IsTree m v) where
+module _ (m : Memory) (v : Layers) (t : Forest m v) where
   whole-cells : cellsOfLayer 31 (m .nodes) (layout.rootOf (m .nodes)) ≡ cellsOfEntries 31 v
   whole-cells =
       let right = lengths m (t .lent) in

@@ -19,7 +19,7 @@ use Rattle.forest.specs.Nodes.{nodeFree}
 use Rattle.forest.specs.Cells.{cellFree, cellRight}
 use Rattle.forest.specs.Trees.{nodeNo, cellNo}
 use Rattle.forest.specs.Layers.{rootOf, reached}
-use Rattle.forest.specs.IsTree.{Layers, IsTree, listing}
+use Rattle.forest.specs.IsTree.{Layers, Forest, listing}
 use Rattle.forest.proofs.Inside.{leaf-kind, internode-kind, leaf-inside, internode-inside}
 use Rattle.trees.specs.FreeNumbers.{timesIn}
 use Rattle.trees.specs.Layers.{Layered}
@@ -51,7 +51,7 @@ CellBalanced m v j = Balanced (isFree cellStart (m .cells)) (cellsIn m) (reached
 
 -- ---- what a tree says of each node and each cell
 
-module _ (m : Memory) (v : Layers) (t : IsTree m v) where
+module _ (m : Memory) (v : Layers) (t : Forest m v) where
   right : Right (length (m .nodes)) (length (m .cells)) (length (m .bytes)) (nodesIn m) (cellsIn m)
   right = lengths m (t .lent)
 
@@ -75,7 +75,6 @@ module _ (m : Memory) (v : Layers) (t : IsTree m v) where
   pub sound-of : Sound m
   sound-of = record {
     lent = t .lent;
-    kept-zero = t .kept-zero;
     nodes-sound = λ k h.
         ⊎-elim (λ r. ⊎-elim (leaf-sound (m .nodes) k) (internode-sound (m .nodes) k) (node-used (m .nodes) 31 v (t .held) k r))
         (λ z. free-sound (m .nodes) k (t .other-nodes k h z)) (some-or-none (reached 31 v (nodeNo k)));
@@ -162,13 +161,12 @@ module _ (m : Memory) (sound : Sound m) where
               (λ f. absurd (eqb-false (markAt (m .cells) c) 0 fails (free-mark (m .cells) (m .bytes) c f))) (λ r. r),
         )
 
-    pub from-view : IsTree m v
+    pub from-view : Forest m v
     from-view =
         let (held, edges) = view-layer m (right-lengths .nodes-whole) sound 31 v (t .holds) in
         record {
           lent = sound .lent;
           rooted = sym (t .rooted) ∙ root-view (v .0 .0) (v .0 .1);
-          kept-zero = sound .kept-zero;
           held = held;
           in-edges = edges;
           at-most-once = reached-once;
@@ -177,7 +175,7 @@ module _ (m : Memory) (sound : Sound m) where
           other-cells = cells-free;
         }
 
-  pub from-trees : (w : Layered 31) → ViewIsTree m w → (v : Layers) × IsTree m v × (layerView 31 v ≡ w)
+  pub from-trees : (w : Layered 31) → ViewIsTree m w → (v : Layers) × Forest m v × (layerView 31 v ≡ w)
   from-trees w t =
       let (v, e) = layer-behind m (right-lengths .nodes-whole) sound 31 w (t .holds) in
       (v, from-view v (subst (ViewIsTree m) (sym e) t), e)

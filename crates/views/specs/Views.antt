@@ -1,12 +1,11 @@
 -- Lent memory as the trees have it. There an ikey is one more than its eight bytes, so that 0 stands left of all.
 use Prim.Native.Nat.{ℕ, zero, suc, _<_}
-use mathlib.Core.Path.{_≡_}
 use mathlib.Core.Bool.{Bool, cond, _||_}
 use mathlib.Core.Logic.{inl, inr}
 use mathlib.Core.List.{List, [], _∷_, map}
 use mathlib.Core.Option.{Option, none, some}
 use lib.Dec.{eqb, T}
-use lib.ListN.{length, getD}
+use lib.ListN.{length}
 use Rattle.arena.specs.Layout.{kindAt, markAt, frameAt, keyAt}
 use Rattle.arena.specs.Memory.{Memory, nodeCount, cellCount, rightLengths}
 use Rattle.forest.specs.Nodes.{entriesAt, ikeysAt, childrenAt, leafRight, internodeRight, nodeFree}
@@ -82,6 +81,5 @@ cellSound cells bytes c = cellFree cells bytes c || cellRight cells bytes c
 -- right lent lengths, and every node and cell sound
 pub record Sound (m : Memory) : Type 0 where
   pub lent : T (rightLengths (length (m .nodes)) (length (m .cells)) (length (m .bytes)))
-  pub kept-zero : getD (m .nodes) 1 0 ≡ 0
   pub nodes-sound : (k : ℕ) → k < nodeCount (length (m .nodes)) → T (nodeSound (m .nodes) k)
   pub cells-sound : (c : ℕ) → c < cellCount (length (m .cells)) → T (cellSound (m .cells) (m .bytes) c)

@@ -13,8 +13,6 @@ is-tree-spec =
     (λ c. search needs)
     (λ c. search judging)
     (λ c. search judging)
-    (λ c. search judging)
-    (λ c. search judging)
     (λ c. search needs)
     (λ c. search needs)
     (λ c κs. search judging)

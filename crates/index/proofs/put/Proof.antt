@@ -1,7 +1,7 @@
 -- `index::put` meets its contract. Assumes nothing.
 use borrow.Author.Tests.{not-true, not-false}
 use borrow.Author.Needs.{needs}
-use Rattle.index.proofs.Lent.{tree-root, tree-seek, tree-lent}
+use Rattle.index.proofs.Lent.{tree-root, tree-seek, tree-lent, tree-count}
 use Rattle.index.proofs.Putting.{put-long, put-unfit, put-stored, put-no-cell, put-few-nodes, put-new}
 use Rattle.index.proofs.put.Statement.{statement}
 use Rattle.index.proofs.put.Tie as tie
@@ -52,12 +52,13 @@ returns-5 c =
     (not-false _ (s .if2 .left)) _ (g .before .seek .ensures .0) (g .match .keys2)
     (f .before .has-cell .ensures) (not-false _ (f .if3 .left)) (c .before .lacking .ensures) (c .if4 .taken)
 
-put-new-requires : tie.Need-put-new-requires
-put-new-requires c κs =
+put-counted-requires : tie.Need-put-counted-requires
+put-counted-requires c κs =
     let g = c .before .before .before .before .before .before .before .before .before .before .before in
     let s = g .before .before .before .before .before in (
       tree-lent _ _ _ (s .before .is-tree .ensures) (not-false _ (s .if2 .left)) (g .before .seek .ensures .1),
       s .before .before .before .before .before .if1 .left,
+      tree-count _ _ _ (s .before .is-tree .ensures) (not-false _ (s .if2 .left)),
     )
 
 returns-6 : tie.Need-returns-6
@@ -69,7 +70,7 @@ returns-6 c =
     put-new _ _ _ _ _ (s .before .before .before .before .before .if1 .left) (s .before .is-tree .ensures)
     (not-false _ (s .if2 .left)) _ (g .before .seek .ensures .0) (g .match .keys2)
     (f .before .has-cell .ensures) (not-false _ (f .if3 .left)) (l .before .lacking .ensures) (l .if4 .left)
-    (c .before .before .before .before .before .before .put-new .ensures)
+    (c .before .before .before .before .before .before .put-counted .ensures)
 
 pub put-spec : {M : Type 1} → statement M
 put-spec =
@@ -98,7 +99,7 @@ put-spec =
     (λ c. search needs)
     (λ c. search needs)
     returns-5
-    put-new-requires
+    put-counted-requires
     (λ c. search needs)
     (λ c. search needs)
     (λ c. search needs)

@@ -23,8 +23,8 @@ seek-requires c κs =
     tree-seek _ _ _ (s .before .is-tree .ensures) (not-false _ (s .if2 .left))
     (s .before .before .before .before .before .if1 .left)
 
-take-entry-requires : tie.Need-take-entry-requires
-take-entry-requires c κs =
+take-counted-requires : tie.Need-take-counted-requires
+take-counted-requires c κs =
     let g = c .before .before .before in
     let s = g .before .before .before .before .before in
     let w =
@@ -61,7 +61,7 @@ remove-spec =
     slice-reshared-read-seek
     seek-requires
     (λ c. search needs)
-    take-entry-requires
+    take-counted-requires
     free-cell-requires
     (λ c. search needs)
     (λ c. search needs)

@@ -1,6 +1,6 @@
 -- `inside::list` meets its contract. Assumes nothing.
 use borrow.Author.Needs.{needs}
-use Rattle.lines_list.proofs.Listings.{no-tree, tree-is, few, header-room, entries-room, list-done}
+use Rattle.lines_list.proofs.Listings.{no-tree, tree-is, header-room, entries-room, list-done}
 use Rattle.lines_list.proofs.inside.list.Statement.{statement}
 use Rattle.lines_list.proofs.inside.list.Tie as tie
 
@@ -12,7 +12,7 @@ list-spec =
     (λ c κs. search needs)
     (λ c. search needs)
     (λ c. search no-tree)
-    (λ c κs. (search tree-is, search few))
+    (λ c κs. search tree-is)
     (λ c κs. search header-room)
     (λ c κs. (search tree-is, (search needs, search entries-room)))
     (λ c. search needs)

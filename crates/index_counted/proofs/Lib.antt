@@ -1,0 +1,3 @@
+pub mod Set
+pub mod Kept
+pub mod Cells
