@@ -17,13 +17,15 @@ static uint64_t cells[CHERCHIVOLA_CELL_WORDS(MOST)];
 static uint8_t bytes[CHERCHIVOLA_KEY_BYTES(MOST)];
 #define LENT nodes, CHERCHIVOLA_NODE_WORDS(MOST), cells, CHERCHIVOLA_CELL_WORDS(MOST), bytes, CHERCHIVOLA_KEY_BYTES(MOST)
 
+static uint8_t image[CHERCHIVOLA_IMAGE_BYTES(MOST)];
+
 static uint8_t stack[ROOM];
 static ucontext_t here, there;
 
 /* Two keys of 256 bytes that differ in the last, and numbers to lend. */
 static uint8_t one[256], other[256];
 static uint64_t word, ikey, child, frame, lacking, entries, order, ikeys[15], children[16];
-static size_t told, shifts, start, n, c;
+static size_t told, shifts, start, n, c, blocks;
 
 /* The calls, each with what makes it go deep. */
 static void nothing(void) {}
@@ -47,6 +49,8 @@ static void find(void) { cherchivola_find(LENT, other, 256, &frame); }
 static void kth(void) { cherchivola_kth(LENT, 0, &child, &order, &frame); }
 static void put(void) { cherchivola_put(LENT, other, 256, 7, &lacking); }
 static void remove_key(void) { cherchivola_remove_key(LENT, other, 256); }
+static void save(void) { cherchivola_save(LENT, image, sizeof image, &blocks); }
+static void load(void) { cherchivola_load(LENT, image, 512 * blocks, &entries, &lacking); }
 
 /* The bytes below the top that are written while this runs. */
 static size_t written(void (*run)(void)) {
@@ -73,13 +77,29 @@ static void chain(size_t many) {
     nodes[2 + 47 * (many - 1) + 1] = UINT64_C(0x0123456789ABCDE0);
 }
 
-/* The five calls that audit, on memory as it is and as the put leaves it. */
+/* Keys whose way is the longest that an image makes: sixteen of the layers of a key of 256 bytes have two levels. */
+static void long_way(void) {
+    uint8_t label[256];
+    cherchivola_clear(LENT);
+    for (size_t layer = 0; layer < 16; layer++) {
+        for (size_t k = 0; k < 15; k++) {
+            memset(label, 'a', 8 * layer), memset(label + 8 * layer, 0, 8);
+            label[8 * layer] = (uint8_t)k;
+            if (cherchivola_put(LENT, label, 8 * layer + 8, 7, &lacking) != 0) exit(2);
+        }
+    }
+    if (cherchivola_put(LENT, one, 256, 7, &lacking) != 0 || cherchivola_put(LENT, other, 256, 7, &lacking) != 0) exit(2);
+}
+
+/* The six calls that audit, on memory as it is and as the put leaves it; and a load of what was saved. */
 static void tell_index(void) {
     tell("  audit", audit);
     tell("  kth", kth);
     tell("  put", put);
     tell("  find", find);
+    tell("  save", save);
     tell("  remove_key", remove_key);
+    tell("  load", load);
 }
 
 int main(void) {
@@ -101,6 +121,10 @@ int main(void) {
         printf("one node, and a key of 256 bytes that becomes %zu layers\n", layers[k]);
         tell_index();
     }
+    memset(other, 'a', sizeof other), other[255] = 'b';
+    long_way();
+    printf("32 layers, sixteen of two levels\n");
+    tell_index();
     for (size_t k = 0; k < sizeof ways / sizeof *ways; k++) {
         chain(ways[k]);
         printf("a way of %zu nodes\n", ways[k]);

@@ -1,10 +1,11 @@
 /*
- * Cherchivola for C and C++: the frame-buffer bank of the camera (slot words), its labels (keys), one internode by itself, and the label
- * index in memory that the caller lends.
+ * Cherchivola for C and C++: the frame-buffer bank of the camera (slot words), its labels (keys), one internode by itself, the label index
+ * in memory that the caller lends, and its image on a card.
  *
  * Every call but read_ikey returns 0 when it is accepted. Otherwise it returns the number of its refusal, and every number, word and byte
- * that was lent to it is as it was before. Where several refusals apply, the lowest is returned. Any values are answered: there is nothing
- * that a caller has to test first.
+ * that was lent to it is as it was before, but for a number that is lent for what the refusal tells, and for an index that `load` empties.
+ * Where several refusals apply, the lowest is returned; `load` has an order of its own. Any values are answered: there is nothing that a
+ * caller has to test first.
  *
  * There is no state behind the calls, no allocation, no lock and no thread. No call keeps a pointer.
  *
@@ -45,7 +46,11 @@ enum {
     CHERCHIVOLA_STORED = 11,  /* the key is stored already */
     CHERCHIVOLA_MISSING = 12, /* the key is not stored, or there are no more than k entries */
     CHERCHIVOLA_NO_CELL = 13, /* no cell is free */
-    CHERCHIVOLA_FEW_NODES = 14 /* a cell is free, and too few nodes are */
+    CHERCHIVOLA_FEW_NODES = 14,    /* a cell is free, and too few nodes are */
+    CHERCHIVOLA_IMAGE_LENGTH = 15, /* the image is no positive multiple of 512 bytes long */
+    CHERCHIVOLA_BAD_CHECK = 16,    /* a block of the image does not agree with its check */
+    CHERCHIVOLA_BAD_STREAM = 17,   /* what the blocks hold is not as it is written */
+    CHERCHIVOLA_SHORT_BUFFER = 18  /* the buffer is too short for the image */
 };
 
 /* How one stands to the other, as the comparisons write it. */
@@ -168,13 +173,14 @@ uint64_t cherchivola_insert_key_and_child(size_t *n, uint64_t ikeys[15], uint64_
  *     static uint64_t cells[CHERCHIVOLA_CELL_WORDS(40)];
  *     static uint8_t bytes[CHERCHIVOLA_KEY_BYTES(40)];
  *
- * Other lengths are refused with 10, and then nothing is read or written through the three pointers. Before the first call memory may hold
- * anything; `clear` makes an empty index of it. Every other call but `lengths` and `count` looks at all of lent memory first, and is refused with 10
- * where that is no index by the rules of docs/LAYOUT.md: so is most damage, often a single flipped bit. (Not seen is what leaves an index:
- * another frame number, another byte far back in a long key.) What clear and accepted calls leave is never refused with 10.
+ * Other lengths are refused with 10, and then nothing is read or written through the three pointers. Before the first call memory may
+ * hold anything; `clear` makes an empty index of it, and `load` the one of an image. Every other call but `lengths` and `count` looks at
+ * all of lent memory first, and is refused with 10 where that is no index by the rules of docs/LAYOUT.md: so is most damage, often a
+ * single flipped bit. (Not seen is what leaves an index: another frame number, another byte far back in a long key.) What clear and
+ * accepted calls leave is never refused with 10.
  *
- * Stack: `clear`, `lengths` and `count` take under 150 bytes. The others take 2 KiB and 400 bytes for each node on the longest way from the root
- * down through all layers, and 6 KiB at least. With 255 lent nodes 105 kB are enough, whatever stands in them.
+ * Stack: `clear`, `lengths` and `count` take under 150 bytes. The others take 2 KiB and 400 bytes for each node on the longest way from
+ * the root down through all layers, and 6 KiB at least. With 255 lent nodes 105 kB are enough, whatever stands in them.
  */
 #define CHERCHIVOLA_NODE_WORDS(n) (2 + 47 * (size_t)(n))
 #define CHERCHIVOLA_CELL_WORDS(c) (2 * (size_t)(c))
@@ -188,8 +194,8 @@ uint64_t cherchivola_lengths(const uint64_t *nodes, size_t node_words, const uin
 uint64_t cherchivola_clear(uint64_t *nodes, size_t node_words, uint64_t *cells, size_t cell_words, uint8_t *bytes, size_t byte_count);
 
 /*
- * Stores a new key with its frame number. Refused: 7, 10, 11; 13 where no cell is free; 14 where a cell is free and the key needs more nodes
- * than are: how many more goes into *lacking. Every other answer leaves *lacking as it was. Refused, memory is as it was.
+ * Stores a new key with its frame number. Refused: 7, 10, 11; 13 where no cell is free; 14 where a cell is free and the key needs more
+ * nodes than are: how many more goes into *lacking. Every other answer leaves *lacking as it was. Refused, memory is as it was.
  */
 uint64_t cherchivola_put(uint64_t *nodes, size_t node_words, uint64_t *cells, size_t cell_words, uint8_t *bytes, size_t byte_count,
                          const uint8_t *key, size_t key_length, uint64_t frame, uint64_t *lacking);
@@ -222,6 +228,43 @@ uint64_t cherchivola_count(const uint64_t *nodes, size_t node_words, const uint6
 /* Whether lent memory is an index, all of it. Refused: 10. */
 uint64_t cherchivola_audit(const uint64_t *nodes, size_t node_words, const uint64_t *cells, size_t cell_words, const uint8_t *bytes,
                            size_t byte_count);
+
+/*
+ * The index on a card, as an image of blocks of 512 bytes. A block is 504 bytes of a stream and two words that check them. The stream is
+ * the number of entries in 4 bytes, then for each entry, in key order, the length of its key in 2 bytes, the key, and its frame number
+ * in 8; numbers have their lowest byte first, and zeros fill it up to a multiple of 504. An image holds entries and not memory: it can
+ * be loaded into memory of another size. The image of an index with c cells takes CHERCHIVOLA_IMAGE_BYTES(c) at most, often far less.
+ *
+ * Stack: `save` takes 4 KiB and 400 bytes for each node on the longest way from the root down through all layers; with 255 lent nodes
+ * 107 kB are enough. `load` takes 10 KiB at most.
+ */
+#define CHERCHIVOLA_IMAGE_BYTES(c) (512 * ((4 + 266 * (size_t)(c) + 503) / 504))
+
+/*
+ * Writes the image of the index into `out`, from its start on, and the number of its blocks into *blocks. Bytes behind the last block stay,
+ * and the index is only read. Refused: 10, and 18 where `out` is too short; then all of `out`, and *blocks, are as they were.
+ */
+uint64_t cherchivola_save(const uint64_t *nodes, size_t node_words, const uint64_t *cells, size_t cell_words, const uint8_t *bytes,
+                          size_t byte_count, uint8_t *out, size_t out_length, size_t *blocks);
+
+/*
+ * Makes of lent memory the index whose image this is, whatever stood there: it clears memory and puts each entry, in key order. The number
+ * of entries is written into *entries. `image_length` is that of the image alone, 512 bytes for each block. Refused, in this order:
+ *
+ *     10  nodes, cells or bytes have wrong lengths
+ *     15  the image is no positive multiple of 512 bytes long
+ *     16  a block does not agree with its check; the number of the first such block, from 0, goes into *told. Where one aligned word of
+ *         a block has changed, this is always found
+ *     17  the stream is not one that `save` writes; the place in the stream where the first wrong part starts goes into *told
+ *     13  the first key that finds no room finds no free cell
+ *     14  it finds a cell, and too few free nodes; how many more it needs goes into *told
+ *
+ * With 10, 15, 16 and 17 memory is as it was; with 13 and 14 it is an empty index. A refusal leaves *entries as it was, and every answer
+ * but 14, 16 and 17 leaves *told as it was. Keys put in their order leave leaves half full: an index may need more nodes after a load
+ * than when it was saved, so that 14 can come up in memory of the same size.
+ */
+uint64_t cherchivola_load(uint64_t *nodes, size_t node_words, uint64_t *cells, size_t cell_words, uint8_t *bytes, size_t byte_count,
+                          const uint8_t *image, size_t image_length, uint64_t *entries, uint64_t *told);
 
 #ifdef __cplusplus
 }

@@ -27,14 +27,15 @@ ROOMS = {
     "the index": ("index", "the index", "clear, put, find, remove, k-th entry"),
     "what it means: a sorted map": ("meaning", "what it means", "the index answers as a sorted map"),
     "lines in, lines out": ("lines", "lines in, lines out", "the program, and what it prints"),
-    "for the camera": ("camera", "for the camera", "35 calls for C, and how answers cross"),
+    "the index saved to a card": ("card", "the card", "the index saved as blocks with checks, and read back; the program that does both"),
+    "for the camera": ("camera", "for the camera", "38 calls for C, and how answers cross"),
     "for the auditor": ("demands", "for the auditor", "the demands as theorems"),
     "programs that replay recorded answers": ("side", "replay programs", "beside what they ask"),
 }
 # One comment stands over two rooms: these crates are in the second.
 SHARED = {"for the camera, and for the auditor": ("for the camera", "for the auditor", {"demands"})}
 
-# Levels from the bottom up: bands with their left and right edge. The camera's room stands on the index, beside what that means.
+# Levels from the bottom up: bands with their left and right edge. The camera and the auditor stand side by side on top of all.
 LEFT, FLOOR, SIDE, RIGHT = 12, 772, 788, 948
 CAMERA = 468
 LEVELS = [
@@ -43,11 +44,12 @@ LEVELS = [
     [("node", LEFT, FLOOR)],
     [("memory", LEFT, FLOOR)],
     [("index", LEFT, FLOOR)],
-    [("meaning", LEFT, CAMERA - 12), ("camera", CAMERA, FLOOR)],
-    [("lines", LEFT, CAMERA - 12)],
-    [("demands", LEFT, CAMERA - 12)],
+    [("meaning", LEFT, FLOOR)],
+    [("lines", LEFT, FLOOR)],
+    [("card", LEFT, FLOOR)],
+    [("demands", LEFT, CAMERA - 12), ("camera", CAMERA, FLOOR)],
 ]
-FILL = {"meaning": "#e3f1e3", "demands": "#fbf0d0", "camera": "#f6e3dc", "lines": "#f6e3dc", "side": "#eeeeee"}
+FILL = {"meaning": "#e3f1e3", "demands": "#fbf0d0", "camera": "#f6e3dc", "lines": "#f6e3dc", "card": "#f6e3dc", "side": "#eeeeee"}
 PAD, HEAD, BOX, ROW, GAP, LETTER = 10, 40, 24, 30, 26, 7.6
 
 LINE = {"code": ' stroke="#666"', "none": ' stroke="#666" stroke-dasharray="4 3"', "program": ' stroke="#333" stroke-width="2.5"'}

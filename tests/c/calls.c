@@ -8,6 +8,8 @@
  *
  * Calls on the index begin with the three lent lengths. Their memory is made by `memory` and stays from line to line; `fill` and `set`
  * write into it, `dump` prints all of it. After such a call come `kept` or `changed`, by all of memory before and after, and a sum of it.
+ * `save` and `load` go on with the length of the buffer or image, which is lent from a card that stays too; `card` writes on it, and a sum
+ * of what was lent of it comes before `kept` or `changed`.
  */
 #define _DEFAULT_SOURCE
 #include <inttypes.h>
@@ -19,7 +21,8 @@
 
 #include "../../include/cherchivola.h"
 
-enum { MOST_NUMBERS = 48, MOST_KEY = 4096, NODES = 2 + 47 * 256, CELLS = 2 * 256, BYTES = 256 * 256, LINE = 32768 };
+enum { NODES = 2 + 47 * 256, CELLS = 2 * 256, BYTES = 256 * 256, CARD = 512 * 140 };
+enum { MOST_NUMBERS = 48, MOST_KEY = CARD, LINE = 2 * CARD + 4096 };
 
 #define BESIDE UINT64_C(0x5EEDBE51DE5EED00)
 
@@ -37,14 +40,14 @@ static size_t lent_size[7];
 
 /* An internode, and lent memory with its lengths: where each ends is a guarded page. What was there before a call is kept beside it. */
 static uint64_t *ikeys, *children;
-static uint8_t *nodes_end, *cells_end, *bytes_end;
+static uint8_t *nodes_end, *cells_end, *bytes_end, *card_end;
 static size_t node_words, cell_words, byte_count;
 static uint64_t all_nodes[NODES], all_cells[CELLS];
-static uint8_t all_bytes[BYTES];
+static uint8_t all_bytes[BYTES], all_card[CARD];
 
 /* What one index call is lent. */
 static uint64_t *nodes, *cells;
-static uint8_t *bytes;
+static uint8_t *bytes, *card;
 
 /* Ends the program: the line can not be understood. */
 static void fail(const char *why, const char *what) {
@@ -267,13 +270,38 @@ static void call_kth(void) {
     tell_word(0), tell_word(1), tell_word(2), take_back();
 }
 
+/* ---- the card: the line's fourth number is how much of it is lent, behind which is a guarded page */
+
+static void lend_card(void) {
+    if (at(3) > CARD) fail("more lent than there is", "card");
+    card = card_end - at(3);
+    memcpy(card, all_card, at(3));
+}
+
+/* Takes the card back, and tells the sum of what was lent. */
+static void take_card(void) {
+    memcpy(all_card, card, at(3));
+    printf(" %" PRIx32, summed(0, card, at(3)));
+}
+
+static void call_save(void) {
+    lend(), lend_card(), returned(cherchivola_save(LENT, card, at(3), size(0, 4)));
+    tell_size(0), take_card(), take_back();
+}
+
+static void call_load(void) {
+    lend(), lend_card(), returned(cherchivola_load(LENT, card, at(3), word(0, 4), word(1, 5)));
+    tell_word(0), tell_word(1), take_card(), take_back();
+}
+
 /* ---- lines that are no calls */
 
-/* memory A B C: so many words of nodes, words of cells and bytes, all zero. */
+/* memory A B C: so many words of nodes, words of cells and bytes, all zero, as the card is then. */
 static void make_memory(void) {
     if (at(0) > NODES || at(1) > CELLS || at(2) > BYTES) fail("too much", "memory");
     node_words = at(0), cell_words = at(1), byte_count = at(2);
     memset(all_nodes, 0, sizeof all_nodes), memset(all_cells, 0, sizeof all_cells), memset(all_bytes, 0, sizeof all_bytes);
+    memset(all_card, 0, sizeof all_card);
 }
 
 /* fill SEED: any numbers, everywhere. */
@@ -292,6 +320,12 @@ static void set_memory(void) {
     if (at(0) == 2 && at(1) < byte_count) all_bytes[at(1)] = (uint8_t)at(2);
 }
 
+/* card PLACE xBYTES: these bytes come on the card. */
+static void write_card(void) {
+    if (keys != 1 || at(0) > CARD || key_length[0] > CARD - at(0)) fail("too much", "card");
+    memcpy(all_card + at(0), key[0], key_length[0]);
+}
+
 /* dump: all of memory. */
 static void dump_memory(void) {
     printf("dump");
@@ -307,7 +341,8 @@ struct named {
     void (*run)(void);
 };
 
-static const struct named notes[] = {{"memory", make_memory}, {"fill", fill_memory}, {"set", set_memory}, {"dump", dump_memory}};
+static const struct named notes[] = {
+    {"memory", make_memory}, {"fill", fill_memory}, {"set", set_memory}, {"card", write_card}, {"dump", dump_memory}};
 
 #define CALL(name) {#name, call_##name}
 static const struct named calls[] = {
@@ -315,18 +350,22 @@ static const struct named calls[] = {
     CALL(swap_free_slots), CALL(insert_from_back), CALL(remove), CALL(remove_to_back), CALL(remove_slot), CALL(exchange), CALL(rotate),
     CALL(read_ikey), CALL(compare_keys), CALL(key_new), CALL(key_shift), CALL(key_shift_by), CALL(key_unshift), CALL(key_unshift_all),
     CALL(key_compare), CALL(key_compare_suffix), CALL(find_insert_position), CALL(compare_key), CALL(child_for),
-    CALL(insert_key_and_child), CALL(lengths), CALL(clear), CALL(put), CALL(remove_key), CALL(find), CALL(kth), CALL(count), CALL(audit)};
+    CALL(insert_key_and_child), CALL(lengths), CALL(clear), CALL(put), CALL(remove_key), CALL(find), CALL(kth), CALL(count), CALL(audit),
+    CALL(save), CALL(load)};
+
+/* What a digit stands for. */
+static int digit(char hex) {
+    const char *digits = "0123456789abcdef", *found = hex == 0 ? NULL : strchr(digits, hex);
+    if (found == NULL) fail("no hex", "line");
+    return (int)(found - digits);
+}
 
 /* Takes `x` and hex as the next key of the line. */
 static void take_key(const char *hex) {
     size_t length = strlen(hex) / 2;
     if (keys == 2 || length > MOST_KEY) fail("a key too many or too long", hex);
     key[keys] = key_end[keys] - length;
-    for (size_t k = 0; k < length; k++) {
-        unsigned value;
-        if (sscanf(hex + 2 * k, "%2x", &value) != 1) fail("no hex", hex);
-        key[keys][k] = (uint8_t)value;
-    }
+    for (size_t k = 0; k < length; k++) key[keys][k] = (uint8_t)(16 * digit(hex[2 * k]) + digit(hex[2 * k + 1]));
     key_length[keys++] = length;
 }
 
@@ -366,6 +405,7 @@ int main(void) {
     key_end[0] = guarded(MOST_KEY), key_end[1] = guarded(MOST_KEY);
     ikeys = (uint64_t *)(void *)guarded(15 * 8) - 15, children = (uint64_t *)(void *)guarded(16 * 8) - 16;
     nodes_end = guarded(sizeof all_nodes), cells_end = guarded(sizeof all_cells), bytes_end = guarded(sizeof all_bytes);
+    card_end = guarded(sizeof all_card);
     for (int k = 0; k < 7; k += 2) lent_word[k] = lent_size[k] = BESIDE;
     while (fgets(line, sizeof line, stdin) != NULL) {
         const char *name = strtok(line, " \n");

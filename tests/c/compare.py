@@ -1,9 +1,10 @@
 # Random calls through C, held to the plain implementations of tests/plain. tests/c/run builds the program calls and runs this.
 #
-#     python3 compare.py [--seed 1] [--scale 1] [--keep FILE] COMMAND ..
+#     python3 compare.py [--seed 1] [--scale 1] [--images 0] [--keep FILE] COMMAND ..
 #
 # COMMAND runs the program of calls.c. All lines are written first, with the answer that each must get; then the program answers them, and
-# every line that differs is shown. It ends with a table of calls and refusals, and status 1 where anything differs.
+# every line that differs is shown. It ends with a table of calls and refusals, and status 1 where anything differs. With --images the calls
+# are loads of so many damaged images.
 
 import argparse
 import random
@@ -12,10 +13,11 @@ import sys
 from collections import Counter
 
 from some import SLOT_CALLS, KEY_CALLS, NODE_CALLS, key_call, node_call, slot_call
+from images import load_damaged
 from lent import SIZES, Lent
 
 SHOWN = 10
-INDEX_CALLS = ["lengths", "clear", "put", "remove_key", "find", "kth", "count", "audit"]
+INDEX_CALLS = ["lengths", "clear", "put", "remove_key", "find", "kth", "count", "audit", "save", "load"]
 FUNCTIONS = SLOT_CALLS + KEY_CALLS + NODE_CALLS + INDEX_CALLS
 
 
@@ -56,6 +58,13 @@ def talked(seed, scale):
     return talk
 
 
+# Loads of so many damaged images.
+def talked_images(seed, count):
+    talk = Talk()
+    load_damaged(talk, seed, count)
+    return talk
+
+
 # Compares, and shows what differs: how many answers do.
 def differing(answers, printed):
     differ = 0
@@ -75,7 +84,7 @@ def report(answers):
         calls[name] += 1
         number = int(expected.split()[0], 16) if name not in ("dump", "read_ikey") else 0
         refused.setdefault(name, Counter())[number] += 1
-    for name in FUNCTIONS:
+    for name in [name for name in FUNCTIONS if calls[name]]:
         numbers = ", ".join("%d: %d" % pair for pair in sorted(refused[name].items()) if pair[0])
         print("%-22s %6d calls%s" % (name, calls[name], ", refused " + numbers if numbers else ""))
     return sum(calls[name] for name in FUNCTIONS), calls["dump"], len([name for name in FUNCTIONS if calls[name]])
@@ -85,10 +94,11 @@ def main():
     options = argparse.ArgumentParser()
     options.add_argument("--seed", type=int, default=1)
     options.add_argument("--scale", type=int, default=1)
+    options.add_argument("--images", type=int, default=0)
     options.add_argument("--keep")
     options.add_argument("command", nargs=argparse.REMAINDER)
     chosen = options.parse_args()
-    talk = talked(chosen.seed, chosen.scale)
+    talk = talked_images(chosen.seed, chosen.images) if chosen.images else talked(chosen.seed, chosen.scale)
     text = "\n".join(talk.lines) + "\n"
     if chosen.keep:
         open(chosen.keep, "w").write(text)

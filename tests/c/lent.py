@@ -5,7 +5,9 @@ import zlib
 from array import array
 
 import damage
+import image
 import index
+import spoilt
 from audit import is_tree
 from memory import Memory
 from room import Room
@@ -17,6 +19,7 @@ SIZES = [((1, 1), 1500), ((1, 3), 1500), ((1, 20), 2500), ((2, 20), 4000), ((3, 
          ((255, 255), 1200)]
 RISING = 6  # the kind of keys that makes the most leaves: eight stay in each
 FILL = (6364136223846793005, 1442695040888963407)
+CARD = 140 * image.BLOCK
 
 
 # The sum of all memory that the program prints.
@@ -38,19 +41,20 @@ def cell_of(memory, key):
 
 
 class Lent:
-    # Memory of this size on both sides, with anything in it.
+    # Memory of this size and a card on both sides, all zero.
     def __init__(self, talk, rng, size):
         self.talk, self.rng = talk, rng
         self.memory = Memory(*size)
         talk.note("memory", *lengths_of(self.memory))
         self.map, self.room = {}, None
+        self.card = bytearray(CARD)
         self.kind, self.growing, self.last = 0, True, 1000
         self.clears = 5 / (20 + size[1])  # large memories are to fill up as well
 
     # So many calls and a few more: first on anything, then from a clear on, with damage and wrong lengths among them.
     def session(self, count):
         self.fill()
-        for name in ("audit", "put", "find", "remove_key", "kth", "count", "lengths"):
+        for name in ("audit", "put", "find", "remove_key", "kth", "count", "lengths", "save", "load"):
             self.call(name)
         self.clear()
         for k in range(count):
@@ -76,7 +80,7 @@ class Lent:
     # A call's name; more puts where memory is to fill up.
     def some_name(self):
         names = ["put"] * (12 if self.growing else 3) + ["remove_key"] * (2 if self.growing else 6)
-        return self.rng.choice(names + ["find"] * 3 + ["kth"] * 3 + ["count"] * 2 + ["audit", "lengths"])
+        return self.rng.choice(names + ["find"] * 3 + ["kth"] * 3 + ["count", "save", "load"] * 2 + ["audit", "lengths"])
 
     # A key: one that is stored, one near to it, or one of the kind that is being put.
     def some_key(self):
@@ -122,7 +126,7 @@ class Lent:
         old = row[at]
         row[at] = self.rng.choice(damage.other_bytes(old) if which == 2 else damage.other_words(old, [row[at - 1]]))
         self.talk.note("set", which, at, row[at])
-        names = ["find", "kth", "count", "audit", "lengths"] + ([] if is_tree(self.memory) else ["put", "remove_key"])
+        names = ["find", "kth", "count", "save", "audit", "lengths"] + ([] if is_tree(self.memory) else ["put", "remove_key"])
         room, self.room = self.room, None
         for _ in range(4):
             self.call(self.rng.choice(names))
@@ -131,11 +135,11 @@ class Lent:
 
     # A call with other lengths, some of which are right ones too. Where something was cleared, or the whole is no tree now, begin anew.
     def otherwise_lent(self, name):
-        accepted = self.call(name, self.rng.choice(damage.lengths_of(self.memory)))
-        if not is_tree(self.memory) or (name == "clear" and accepted):
+        changed = self.call(name, self.rng.choice(damage.lengths_of(self.memory)))
+        if not is_tree(self.memory) or (name in ("clear", "load") and changed):
             self.clear()
 
-    # One call of this name with the memory, or with only so much of it lent: whether it must be accepted.
+    # One call of this name with the memory, or with only so much of it lent: whether it must change something.
     def call(self, name, lengths=None):
         whole = lengths is None
         lent = self.memory if whole else damage.cut_to(self.memory, lengths)
@@ -149,7 +153,7 @@ class Lent:
                 (lent.nodes, self.memory.nodes), (lent.cells, self.memory.cells), (lent.bytes, self.memory.bytes))))
         state = "kept" if lent.same(old) else "changed"
         self.talk.call(name, lengths_of(lent) + tuple(words), (number, *values, state, sum_of(self.memory)))
-        return number == 0
+        return state == "changed"
 
     # The map's own answer, with room counted without nodes.
     def agree(self, name, key, number, values):
@@ -218,3 +222,51 @@ class Lent:
 
     def ask_audit(self, lent):
         return (), 0 if is_tree(lent) else 10, ()
+
+    # ---- the card
+
+    # The image of the stored entries or of others; mostly damaged, so that the index stays.
+    def some_image(self):
+        entries = sorted(self.map.items()) if self.rng.random() < 0.7 else spoilt.some_entries(self.rng, False)
+        if self.rng.random() < 4 * self.clears:
+            return image.image_of(entries)
+        return self.rng.choice(spoilt.KINDS)(self.rng, entries, self.rng.randrange(1000))
+
+    # Brings these bytes to the start of the card: those from the first to the last that are others now.
+    def bring(self, data):
+        others = [at for at in range(len(data)) if data[at] != self.card[at]]
+        if others:
+            self.talk.note("card", others[0], data[others[0]:others[-1] + 1])
+        self.card[:len(data)] = data
+
+    # Both give the sum of what is lent of the card behind the lent numbers.
+    def ask_save(self, lent):
+        needed, most = len(image.image_of(sorted(self.map.items()))), len(image.image_of([(bytes(256), 0)] * lent.cell_count()))
+        length = min(CARD, self.rng.choice((0, needed - 1, needed, needed, needed + self.rng.randint(1, 600), most)))
+        old, out = before(self.rng), self.card[:length]
+        answer = image.save(lent, out)
+        assert length != most or answer.number != 18, (length, answer)
+        self.card[:length] = out
+        return (length, old), answer.number, (or_else(answer.told, old), zlib.crc32(out))
+
+    def ask_load(self, lent):
+        data, olds = self.some_image(), (before(self.rng), before(self.rng))
+        self.bring(data)
+        answer = image.load(lent, data)
+        if lent is self.memory and answer.number in (0, 13, 14):
+            assert self.refill(image.read(data)[1]) == answer, (answer, data.hex())
+        told = (olds[0], or_else(answer.told, olds[1])) if answer.number else (answer.told, olds[1])
+        return (len(data), *olds), answer.number, (*told, zlib.crc32(data))
+
+    # The map after a clear and these entries one by one, with room counted without nodes; empty where one finds none. What that tells.
+    def refill(self, entries):
+        self.map, self.room = {}, Room(self.memory.node_count())
+        for key, frame in entries:
+            lacking = self.room.need(key) - self.room.free
+            if len(self.map) == self.memory.cell_count() or lacking > 0:
+                full = len(self.map) == self.memory.cell_count()
+                self.map, self.room = {}, Room(self.memory.node_count())
+                return image.Told(13) if full else image.Told(14, lacking)
+            self.room.put(key)
+            self.map[key] = frame
+        return image.Told(0, len(entries))

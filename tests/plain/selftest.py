@@ -10,6 +10,7 @@ import time
 import bank
 import calls
 import damage
+import image
 import index
 import internodes
 import layers
@@ -18,6 +19,8 @@ import words
 from answers import PlainMap, output_for
 from audit import RULES, broken_rules, is_tree
 from crafted import CRAFTED
+from crafted_images import CRAFTED_IMAGES, MANY, TWO
+from image import BLOCK, HELD, Told
 from keys import LINK, class_at, ikey_at
 from listing import listing
 from memory import LEAF, Memory, dump, load
@@ -25,6 +28,7 @@ from reach import WANTED, IndexStore, reached_by
 from replay import replayed
 from samples import GOOD, fresh, run
 from scripts import KINDS, script_of
+from spoilt import some_entries, spoilt
 
 # A key fits one entry only, so a cell with two entries always breaks another rule too.
 NEVER_ALONE = {"cell once"}
@@ -360,8 +364,72 @@ def check_scripts(scale):
     return "%d scripts" % count
 
 
+# Images: two worked out, those laid out by hand, what is read is what was written, a change of every word, every byte of a fill, damage.
+def check_images(scale):
+    same(image.image_of([]), bytes(504) + bytes.fromhex("01000000" "7e000000"), "no entry")
+    same(image.image_of([(b"a", 7)]), bytes.fromhex("01000000" "0100" "61" "0700000000000000").ljust(504, b"\0")
+         + (0x07610003).to_bytes(4, "little") + ((2 + 125 * 0x07610003) % (1 << 32)).to_bytes(4, "little"), "one entry")
+    for name, told, data in CRAFTED_IMAGES:
+        same(image.read(data)[0], told, name)
+    rng = random.Random(3)
+    for turn in range(100 * scale):
+        entries = some_entries(rng, turn % 20 == 0)
+        same(image.read(image.image_of(entries)), (Told(0, len(entries)), entries), "read back")
+    for data in (TWO, MANY):
+        for at in range(0, len(data), 4):
+            new = (int.from_bytes(data[at:at + 4], "little") + rng.randrange(1, 1 << 32)) % (1 << 32)
+            same(image.read(data[:at] + new.to_bytes(4, "little") + data[at + 4:]), (Told(16, at // BLOCK), None), "one word")
+    for place in range(4, HELD):
+        same(image.read(image.in_blocks(bytes(place) + b"\1" + bytes(HELD - 1 - place))), (Told(17, place), None), "fill")
+    told = [image.read(data)[0] for _, data in spoilt(2000 * scale, 1)]
+    same({number for number, _ in told}, {0, 15, 16, 17}, "told by damaged images")
+    return "%d by hand, %d damaged, %d places of 17" % (len(CRAFTED_IMAGES), len(told), len({t for t in told if t.number == 17}))
+
+
+# Saving and loading: an index is only read, what is refused keeps every byte, a load is a clear and its puts, or where one fails the clear.
+def check_cards(scale):
+    counts = {}
+    for name, make in GOOD + [(name, make) for name, verdict, make in CRAFTED if verdict]:
+        memory, entries = make(), listing(make())
+        size = len(image.image_of(entries))
+        for room, told in ((0, Told(18)), (size - 1, Told(18)), (size, Told(0, size // BLOCK)), (size + 99, Told(0, size // BLOCK))):
+            out = bytearray(b"x" * room)
+            same((image.save(memory, out), memory.same(make())), (told, True), name)
+            same(bytes(out), (b"" if told.number else image.image_of(entries)).ljust(room, b"x"), name)
+        for n, c in ((memory.node_count(), memory.cell_count()), (1, 255), (255, 1), (255, 255)):
+            loaded_as_put(n, c, entries, counts)
+    bad, short = fresh(1, 1), fresh(1, 1)
+    bad.nodes[1], short.bytes = 1, bytearray(255)
+    for memory in (bad, short):
+        before = memory.copy()
+        same((image.save(memory, bytearray()), memory.same(before)), (Told(10), True), "10 before 18")
+    same((image.load(short, b""), image.load(bad, image.image_of([]))), (Told(10), Told(0, 0)), "lengths alone are looked at")
+    same(bad.same(fresh(1, 1)), True, "loaded over anything")
+    for name, told, data in CRAFTED_IMAGES:
+        memory = Memory.of([5] * 49, [6] * 2, [7] * 256)
+        if told.number:
+            same((image.load(memory, data), memory.same(Memory.of([5] * 49, [6] * 2, [7] * 256))), (told, True), name)
+    same({number for number, _ in counts}, {0, 13, 14}, "loads")
+    return "loads " + ", ".join("%d: %d" % (n, sum(v for k, v in counts.items() if k[0] == n)) for n in (0, 13, 14))
+
+
+# A load into such a memory with anything in it, held to puts one by one, each of which looks at all of it first.
+def loaded_as_put(n, c, entries, counts):
+    memory, plain = Memory(n, c), fresh(n, c)
+    memory.nodes, memory.bytes = [1 << 60] * len(memory.nodes), bytearray(b"?" * len(memory.bytes))
+    expected = Told(0, len(entries))
+    for key, frame in entries:
+        answer = index.put(plain, key, frame)
+        if answer.number:
+            plain, expected = fresh(n, c), Told(answer.number, answer.lacking)
+            break
+    same((image.load(memory, image.image_of(entries)), memory.same(plain)), (expected, True), "load")
+    counts[expected] = counts.get(expected, 0) + 1
+
+
 CHECKS = [check_words, check_bank, check_keys, check_layers, check_text, check_longest, check_numbers, check_levels, check_shapes,
-          check_refusals, check_crafted, check_calls, check_calls_on_crafted, check_scripts, check_files, check_damage]
+          check_refusals, check_crafted, check_calls, check_calls_on_crafted, check_images, check_cards, check_scripts,
+          check_files, check_damage]
 
 
 # Runs all the checks.

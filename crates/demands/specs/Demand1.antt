@@ -8,19 +8,21 @@
 -- `KeepsMemory` adds, for calls on lent memory, that a refused call leaves every word and byte as it was.
 use Prim.Native.Nat.{ℕ, _+_, _-_, _*_, _/_, _<_, compare}
 use mathlib.Core.Path.{_≡_, subst, sym}
+use mathlib.Core.Logic.{_⊎_, _≢_}
 use mathlib.Core.Bool.{not, _&&_}
-use mathlib.Core.List.{List, [], _∷_}
-use lib.Dec.{leb, ltb}
-use lib.ListN.{length, getD}
+use mathlib.Core.List.{List, [], _∷_, _++_}
+use lib.Dec.{leb, ltb, eqb}
+use lib.ListN.{length, getD, drop}
 use Rattle.refusal.specs.Answer.{Rule, _unless_, _telling_}
-use Rattle.refusal.specs.Exactly.{listedAbove, AsRuled}
-use Rattle.refusal.proofs.Exactly.{as-ruled}
+use Rattle.refusal.specs.Exactly.{listedAbove, AsRuled, AsListed}
+use Rattle.refusal.proofs.Exactly.{as-ruled, as-listed}
 use Rattle.bank.specs.Bank.{sorted}
 use Rattle.bank.specs.Calls.{Change, Question, changeRules, after, handedOut, questionRules, told}
 use Rattle.bank.proofs.Rules.{changes-listed, questions-listed}
 use Rattle.nibbles.specs.Words.{bankOf, wordOf, goodWidth, validWord}
 use Rattle.permuter.specs.Words.{wordRules, changed, asked, madeSorted, madeEmpty}
 use Rattle.ikey.specs.Said.{place}
+use Rattle.order.specs.Bytes.{Bytes}
 use Rattle.order.specs.Layer.{classAt}
 use Rattle.internode_places.specs.declared.Internode.{Internode}
 use Rattle.internode.specs.Lists.{rising, insertedAt}
@@ -35,6 +37,11 @@ use Rattle.forest.specs.Walk.{isTree}
 use Rattle.audit_said.specs.Audited.{audited}
 use Rattle.model.specs.Calls as index
 use Rattle.model.proofs.Refused.{kept-if-refused}
+use Rattle.as_map.specs.Calls.{clear, left}
+use Rattle.card_stream.specs.Image.{blocksFor, imageOf}
+use Rattle.card_said.specs.Save.{entriesIn, saveDone}
+use Rattle.card_said.specs.Load.{wholeBlocks, badBlock, checksGood, read, asWritten, wrongAt, entriesOf, putsSaid, loadDone}
+use Rattle.card_said.proofs.Ruled as card
 
 -- ---- slot words
 
@@ -182,3 +189,44 @@ putRules m key =
 pub puts : (m : Memory) (key : List ℕ) (frame : ℕ) → KeepsMemory (putRules m key) [] m (index.putDone m key frame)
 unfolding index.putDone listedAbove
 puts m key frame = record { ruled = as-ruled tt; kept = kept-if-refused (index.putSaid m key) _ m }
+
+-- ---- the card (document 02, A3): what it means that a block, a stream and an image are as written stands in Card.antt
+
+-- Saving only reads the index: 10, then 18 where the buffer is shorter than all blocks.
+abbrev pub saveRules : Memory → List ℕ → List Rule
+saveRules m out = (10 unless isTree m) ∷ (18 unless leb (512 * blocksFor (entriesIn m)) (length out)) ∷ []
+
+-- It tells the number of blocks. Accepted, the image stands at the start of the buffer and the bytes behind it stay; refused, all stay.
+pub saves : (m : Memory) (out : List ℕ)
+    → AsRuled (saveRules m out) (blocksFor (entriesIn m) ∷ []) [] (saveDone m out .1)
+    × (saveDone m out .1 .number ≡ 0 → saveDone m out .0 ≡ imageOf (entriesIn m) ++ drop (512 * blocksFor (entriesIn m)) out)
+    × (0 < saveDone m out .1 .number → saveDone m out .0 ≡ out)
+unfolding saveDone listedAbove
+saves m out = (as-ruled tt, card.save-written m out, card.save-kept m out)
+
+-- Reading asks of lent memory its lengths alone. The order of its refusals is not that of their numbers: 10, 15 for the length of the
+-- image, 16 with the first block whose check is bad, 17 with the place in the stream where the first wrong part starts; then 13, or 14
+-- with its number, as the first failing put gives it. `AsListed` says of rules in any order what `AsRuled` says of rising ones.
+abbrev pub loadRules : Memory → List ℕ → List Rule
+loadRules m image =
+    (10 unless rightLengths (length (m .nodes)) (length (m .cells)) (length (m .bytes)))
+    ∷ (15 unless wholeBlocks (length image))
+    ∷ ((16 unless checksGood image) telling (badBlock image ∷ []))
+    ∷ ((17 unless asWritten (read image)) telling (wrongAt (read image) ∷ []))
+    ∷ (13 unless not (eqb (putsSaid m image .number) 13))
+    ∷ ((14 unless not (eqb (putsSaid m image .number) 14)) telling (putsSaid m image .values))
+    ∷ []
+
+-- It tells the number of entries. Refused with 10, 15, 16 or 17, every word and byte is as it was. Document 02 amends the demand for 13
+-- and 14 of this call: they leave the index empty and good, exactly what a clear leaves.
+pub loads : (m : Memory) (image : List ℕ) → Bytes image
+    → AsListed (loadRules m image) (length (entriesOf (read image)) ∷ []) [] (loadDone m image .answer)
+    × (0 < loadDone m image .answer .number → loadDone m image .answer .number ≢ 13 → loadDone m image .answer .number ≢ 14
+    → loadDone m image .after ≡ m)
+    × ((loadDone m image .answer .number ≡ 13) ⊎ (loadDone m image .answer .number ≡ 14) → loadDone m image .after ≡ left m clear)
+loads m image b = (
+  subst (AsListed (loadRules m image) (length (entriesOf (read image)) ∷ []) []) (sym (card.load-says m image b))
+      (as-listed (loadRules m image) (length (entriesOf (read image)) ∷ []) []),
+  card.load-kept m image b,
+  card.load-emptied m image b,
+)

@@ -38,6 +38,9 @@ use Rattle.as_map.proofs.Room as room
 use Rattle.as_map.proofs.Index as index
 use Rattle.as_map.proofs.Count as tally
 use Rattle.index_counted.proofs.Cells as cells
+use Rattle.map_loads.specs.Loads.{asCalls, NoRoom, doneEach, FailsFirst, heardAs}
+use Rattle.card_said.specs.Load.{read, entriesOf, loadDone}
+use Rattle.card_said.proofs.Ruled as card
 
 -- Layer by layer, as their bytes do.
 pub keys-compare : (a b : List ℕ) → Bytes a → Bytes b → length a ≤ 256 → length b ≤ 256
@@ -166,3 +169,23 @@ module _ (m : Memory) (v : Layers) (t : IsTree m v) (bytes : Bytes (m .bytes)) (
 pub first-put : (n c : ℕ) → 1 ≤ n → n ≤ 255 → 1 ≤ c → c ≤ 255 → (key : List ℕ) → Bytes key → length key ≤ 256 → (x : ℕ)
     → heard (emptied n c) (put key x) ≡ done
 first-put n c n-low n-high c-low c-high key b short x = room.first-put n c n-low n-high c-low c-high key b short x
+
+-- ---- an image that is read (document 02, A3) counts as a clear and its puts, or as a clear alone where a refusal empties the index
+--
+-- `loadDone m image` is what `load` answers and leaves, by what its contract promises (crates/card_said/specs/Load.antt), and `asCalls es`
+-- are a clear and a put of each entry, in order. So a list of calls with loads among them leaves what a list without leaves, and all of
+-- the above holds behind it: the map, the count, a tree that never gets 10.
+
+module _ (m : Memory) (image : List ℕ) (b : Bytes image) where
+  -- Accepted, it leaves exactly what a clear and the puts of its entries leave, each put accepted, and its listing is these entries.
+  pub load-counts-as : loadDone m image .answer .number ≡ 0
+      → (loadDone m image .after ≡ leftAfter m (asCalls (entriesOf (read image))))
+      × (answers m (asCalls (entriesOf (read image))) ≡ doneEach (asCalls (entriesOf (read image))))
+      × ((v : Layers) → IsTree (loadDone m image .after) v → listing (loadDone m image .after) v ≡ entriesOf (read image))
+  load-counts-as z = card.load-counts-as m image b z
+
+  -- Refused for want of room, it leaves what a clear leaves; 13, or 14 with its number, is what the first failing put hears behind the
+  -- clear and the puts before it.
+  pub load-refused-as : NoRoom (loadDone m image .answer)
+      → (loadDone m image .after ≡ left m clear) × FailsFirst m asCalls (entriesOf (read image)) (heardAs (loadDone m image .answer))
+  load-refused-as r = card.load-refused-as m image b r

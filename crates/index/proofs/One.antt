@@ -9,8 +9,8 @@ use Rattle.arena.specs.declared.Cleared.{Cleared}
 use Rattle.arena.specs.Memory.{Memory, Did, did, cleared, saidCleared}
 use Rattle.arena.proofs.One as arena
 use Rattle.model.specs.Calls.{findSaid, kthSaid, removed, putDone}
-use Rattle.index.specs.declared.Added.{Added}
-use Rattle.index.specs.declared.Added.the-variants as added-is
+use Rattle.index_put.specs.declared.Added.{Added}
+use Rattle.index_put.specs.declared.Added.the-variants as added-is
 use Rattle.index_remove.specs.declared.Removed.{Removed}
 use Rattle.index_remove.specs.declared.Removed.the-variants as removed-is
 use Rattle.index_questions.specs.declared.Found.{Found}

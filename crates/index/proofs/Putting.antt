@@ -1,27 +1,23 @@
 -- One law for each way in which put returns. Assumes nothing.
-use mathlib.Core.Path.{_≡_, ap}
+use mathlib.Core.Path.{_≡_, sym, _∙_}
 use mathlib.Core.Bool.{Bool, true, false}
-use mathlib.Core.List.{List, [], _∷_}
-use Prim.Native.Nat.{ℕ, _+_, _≤_, _<_}
-use denote.Enum.Declared.{tagOf}
-use types.Run.{OneOf}
-use native.Mathlib.Omega.{arith}
-use lib.Dec.{leb}
+use mathlib.Core.List.{List, []}
+use Prim.Native.Nat.{ℕ, _≤_, _<_}
 use borrow.Author.Tests.{le-leb, lt-leb}
-use lib.ListN.{length, getD}
-use Rattle.refusal.specs.Answer.{accepted, refused}
+use lib.ListN.{length}
+use Rattle.refusal.specs.Answer.{refused}
 use Rattle.refusal.specs.declared.Refusal.the-variants as no
-use Rattle.arena.specs.Free.{freeNodes}
-use Rattle.arena.specs.Memory.{memory, nodeCount, did}
+use Rattle.arena.specs.Memory.{memory, Did, did, rightLengths}
+use Rattle.arena.proofs.Measures.{and-true}
 use Rattle.forest.specs.Walk.{isTree}
-use Rattle.model.specs.declared.Met.{Met}
-use Rattle.model.specs.declared.Met.the-variants.{Stored}
-use Rattle.model.specs.Meet.{meet}
-use Rattle.model.specs.Calls.{neededAt, withCount, putDone}
-use Rattle.model.proofs.Met as met-type
-use Rattle.store.specs.Places.{hasCellIn, lackingAt, withAt}
-use Rattle.index.specs.Answers.{tooFewNodes}
-use Rattle.index.proofs.Lent.{tag-other}
+use Rattle.model.specs.Calls.{putDone, putLent}
+use Rattle.model.proofs.Lent.{lent-is-put}
+
+-- a tree has right lengths
+pub tree-lengths : (nodes cells bytes : List ℕ) {t : Bool} → t ≡ isTree (memory nodes cells bytes) → t ≡ true
+    → rightLengths (length nodes) (length cells) (length bytes) ≡ true
+unfolding isTree
+tree-lengths nodes cells bytes e y = and-true _ _ (sym e ∙ y) .0
 
 module _ (nodes cells bytes key : List ℕ) (frame : ℕ) where
   pub put-long : 256 < length key → did (refused no.Key []) (memory nodes cells bytes) ≡ putDone (memory nodes cells bytes) key frame
@@ -33,34 +29,6 @@ module _ (nodes cells bytes key : List ℕ) (frame : ℕ) where
     unfolding putDone
     put-unfit f = rw (le-leb (length key) 256 s, ← e, f)
 
-    module _ (y : t ≡ true) (r : Met) (w : r ≡ meet 31 (memory nodes cells bytes) key 0 0 (getD nodes 0 0)) where
-      pub put-stored : {leaf p c : ℕ} → r ≡ Stored leaf p c
-          → did (refused no.Stored []) (memory nodes cells bytes) ≡ putDone (memory nodes cells bytes) key frame
-      unfolding putDone
-      put-stored q = rw (le-leb (length key) 256 s, ← e, y, ← w, q)
-
-      module _ (h : OneOf (1 ∷ 2 ∷ []) (tagOf met-type.the-type r)) {cell : Bool} (d : cell ≡ hasCellIn cells) where
-        pub put-no-cell : cell ≡ false → did (refused no.Room []) (memory nodes cells bytes) ≡ putDone (memory nodes cells bytes) key frame
-        unfolding putDone
-        put-no-cell f = rw (le-leb (length key) 256 s, ← e, y, ← w, tag-other r h, ← d, f)
-
-        module _ (f : cell ≡ true) {n : ℕ} (l : n ≡ lackingAt (memory nodes cells bytes) key r) where
-          abbrev need : ℕ
-          need = neededAt (memory nodes cells bytes) key r
-
-          abbrev free : ℕ
-          free = length (freeNodes nodes (nodeCount (length nodes)))
-
-          pub put-few-nodes : 0 < n → did (tooFewNodes n) (memory nodes cells bytes) ≡ putDone (memory nodes cells bytes) key frame
-          unfolding putDone
-          put-few-nodes g =
-              let few : leb need free ≡ false = lt-leb need free (omega arith) in
-              rw (le-leb (length key) 256 s, ← e, y, ← w, tag-other r h, ← d, f, few, ← l)
-
-          pub put-new : {n1 c1 b1 : List ℕ} → n ≤ 0
-              → memory n1 c1 b1 ≡ withCount (withAt (memory nodes cells bytes) key frame r) (getD nodes 1 0 + 1)
-              → did (accepted []) (memory n1 c1 b1) ≡ putDone (memory nodes cells bytes) key frame
-          unfolding putDone
-          put-new z g =
-              let enough : leb need free ≡ true = le-leb need free (omega arith) in
-              rw (le-leb (length key) 256 s, ← e, y, ← w, tag-other r h, ← d, f, enough) (ap (did (accepted [])) g)
+    -- on a tree, as without the audit
+    pub put-known : t ≡ true → {d : Did} → d ≡ putLent (memory nodes cells bytes) key frame → d ≡ putDone (memory nodes cells bytes) key frame
+    put-known y q = q ∙ lent-is-put (memory nodes cells bytes) key frame s (sym e ∙ y)

@@ -1,18 +1,4 @@
 -- What each answer of the index says, by document 01's numbers.
-use Prim.Native.Nat.{ℕ}
-use mathlib.Core.List.{[], _∷_}
-use Rattle.refusal.specs.Answer.{Answer, accepted, refused, refusedTelling}
+pub use Rattle.index_put.specs.Answers.{tooFewNodes, saidAdded}
 pub use Rattle.index_questions.specs.Answers.{saidFound, saidListed}
 pub use Rattle.index_remove.specs.Answers.{saidRemoved}
-use Rattle.index.specs.declared.Added.{Added}
-use Rattle.index.specs.declared.Added.the-variants as added-is
-
--- too few nodes are free: 14, and the number of nodes lacking
-abbrev pub tooFewNodes : ℕ → Answer
-tooFewNodes lacking = refusedTelling 14 (lacking ∷ []) []
-
--- a put: 0, or the number of a refusal; 14 with the number of nodes lacking
-abbrev pub saidAdded : Added → Answer
-saidAdded added-is.Done = accepted []
-saidAdded (added-is.TooFewNodes lacking) = tooFewNodes lacking
-saidAdded (added-is.Refused why) = refused why []

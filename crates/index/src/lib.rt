@@ -9,6 +9,7 @@ pub use arena::Cleared;
 pub use arena::clear;
 pub use index_count::Counted;
 pub use index_count::count;
+pub use index_put::Added;
 pub use index_questions::Found;
 pub use index_questions::Listed;
 pub use index_questions::find;
@@ -16,19 +17,10 @@ pub use index_questions::kth;
 pub use index_remove::Removed;
 pub use index_remove::remove;
 use memory_layout::CELL_BYTES;
-use model::Met;
 use refusal::Refusal;
 
 // The most bytes that a key has.
 const LONGEST: usize = CELL_BYTES;
-
-// What a put answers.
-pub enum Added {
-    Done,
-    // 14: so many nodes fewer are free than the put needs
-    TooFewNodes(u64),
-    Refused(Refusal),
-}
 
 // Stores a new key with its frame number, and counts it.
 pub fn put(nodes: &mut [u64], cells: &mut [u64], bytes: &mut [u8], key: &[u8], frame: u64) -> Added
@@ -41,21 +33,5 @@ pub fn put(nodes: &mut [u64], cells: &mut [u64], bytes: &mut [u8], key: &[u8], f
     if !audit::is_tree(nodes, cells, bytes) {
         return Added::Refused(Refusal::Memory);
     }
-    let met = seek::inside::seek(nodes, cells, bytes, key, 0, 0, nodes[0]);
-    if let Met::Stored {
-        leaf: _,
-        position: _,
-        cell: _,
-    } = met {
-        return Added::Refused(Refusal::Stored);
-    }
-    if !store::inside::has_cell(cells) {
-        return Added::Refused(Refusal::Room);
-    }
-    let lacking = store::inside::lacking(nodes, cells, bytes, key, met);
-    if 0 < lacking {
-        return Added::TooFewNodes(lacking as u64);
-    }
-    store::inside::put_counted(nodes, cells, bytes, key, frame, met);
-    Added::Done
+    index_put::inside::put_lent(nodes, cells, bytes, key, frame)
 }

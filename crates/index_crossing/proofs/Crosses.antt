@@ -15,8 +15,8 @@ use Rattle.arena.specs.Memory.{Memory, Did, did, saidCleared, saidMeasured}
 use Rattle.audit.specs.declared.Audited.{Audited}
 use Rattle.audit.specs.declared.Audited.the-variants as audited-is
 use Rattle.audit.specs.Audit.{saidAudited}
-use Rattle.index.specs.declared.Added.{Added}
-use Rattle.index.specs.declared.Added.the-variants as added-is
+use Rattle.index_put.specs.declared.Added.{Added}
+use Rattle.index_put.specs.declared.Added.the-variants as added-is
 use Rattle.index_remove.specs.declared.Removed.{Removed}
 use Rattle.index_remove.specs.declared.Removed.the-variants as removed-is
 use Rattle.index_questions.specs.declared.Found.{Found}
@@ -61,7 +61,7 @@ pub one-told-outcome : {d : Did} {r r′ : ℕ} {m m′ : Memory} {before after 
 one-told-outcome h h′ = (h .number ∙ sym (h′ .number), h .lent ∙ sym (h′ .lent), h .told ∙ sym (h′ .told))
 
 -- a refusal that tells nothing leaves what was lent
-nothing-told : (why : Refusal) (before : List ℕ) → before ≡ cond (eqb (numberOf why) 0) before before
+pub nothing-told : (why : Refusal) (before : List ℕ) → before ≡ cond (eqb (numberOf why) 0) before before
 nothing-told why before = by (eqb (numberOf why) 0)
   where
     by : (b : Bool) → before ≡ cond b before before

@@ -13,8 +13,8 @@ use Rattle.refusal.specs.Answer.{Answer}
 use Rattle.refusal.proofs.Laws.{number-pos}
 use Rattle.arena.specs.Memory.{Memory, Did, did}
 use Rattle.model.specs.Calls.{putDone, findSaid, removed}
-use Rattle.index.specs.declared.Added.{Added}
-use Rattle.index.specs.declared.Added.the-variants as added-is
+use Rattle.index_put.specs.declared.Added.{Added}
+use Rattle.index_put.specs.declared.Added.the-variants as added-is
 use Rattle.index_remove.specs.declared.Removed.{Removed}
 use Rattle.index_remove.specs.declared.Removed.the-variants as removed-is
 use Rattle.index_questions.specs.declared.Found.{Found}

@@ -4,7 +4,7 @@ use mathlib.Core.Bool.{Bool, true, false, cond, not, _&&_}
 use mathlib.Core.List.{List, [], _∷_}
 use lib.Dec.{leb, ltb, eqb}
 use lib.ListN.{length, getD, set}
-use Rattle.memory_layout.specs.Numbers.{classesFrom, cellBytes}
+use Rattle.memory_layout.specs.Numbers.{classesFrom, cellBytes, mostLent}
 use Rattle.refusal.specs.Answer.{Answer, Rule, _unless_, _telling_, answered}
 use Rattle.arena.specs.Layout.{nodeStart, rootOf, markAt, frameAt, keyAt, putCell, putKey, freedCell, freedKey}
 use Rattle.arena.specs.Free.{freeNodes, freeCells}
@@ -163,15 +163,28 @@ with m key frame =
     (putCell (m .cells) (freshCell m) (length key) frame)
     (putKey (m .bytes) (freshCell m) key)
 
--- put: 11 if the key is stored, 13 unless a cell is free, 14 unless nodes enough are, with the number of nodes lacking
-abbrev pub putSaid : Memory → List ℕ → Answer
-putSaid m key =
-    answered
-    (keyRules m key
-    ((11 unless not (stored m key)) ∷ (13 unless hasCell m) ∷ ((14 unless hasNodes m key) telling (lacking m key ∷ [])) ∷ []))
-    [] []
+-- refusals 11, 13 and 14, of a put: the key is stored; no cell is free; too few nodes are, with the number of nodes lacking
+abbrev pub putRules : Memory → List ℕ → List Rule
+putRules m key =
+    (11 unless not (stored m key)) ∷ (13 unless hasCell m) ∷ ((14 unless hasNodes m key) telling (lacking m key ∷ [])) ∷ []
 
--- what put answers, and the memory that it leaves: with the entry, and one more counted
+-- memory after an accepted put: with the entry, and one more counted
+abbrev pub putLeaves : Answer → Memory → List ℕ → ℕ → Memory
+putLeaves a m key frame = whenAccepted a (withCount (with m key frame) (countOf m + 1)) m
+
+-- put: 7 and 10, then 11, 13 and 14
+abbrev pub putSaid : Memory → List ℕ → Answer
+putSaid m key = answered (keyRules m key (putRules m key)) [] []
+
+-- what put answers, and the memory that it leaves
 unfoldable pub putDone : Memory → List ℕ → ℕ → Did
-putDone m key frame =
-    did (putSaid m key) (whenAccepted (putSaid m key) (withCount (with m key frame) (countOf m + 1)) m)
+putDone m key frame = did (putSaid m key) (putLeaves (putSaid m key) m key frame)
+
+-- a put on lent memory of right lengths, with a key of 256 bytes at most, that judges of memory its count alone: 10 where that is over
+-- 255, then 11, 13 and 14
+abbrev pub lentSaid : Memory → List ℕ → Answer
+lentSaid m key = answered ((10 unless leb (countOf m) mostLent) ∷ putRules m key) [] []
+
+-- what it answers, and the memory that it leaves: where memory is a tree, those of put
+unfoldable pub putLent : Memory → List ℕ → ℕ → Did
+putLent m key frame = did (lentSaid m key) (putLeaves (lentSaid m key) m key frame)

@@ -1,7 +1,6 @@
 // One recorded call on the index, at fixed places of a line of 570 bytes: the call, its number, a frame number, another number, the sum of
 // the memory after it, the length of a key and the key. tests/calls.py makes such lines and says which is which.
 ghost use Prim.Native.Nat.{_≤_};
-use crate::sum;
 use arena::Cleared;
 use index::Added;
 use index::Counted;
@@ -73,7 +72,7 @@ pub(crate) fn agrees(nodes: &mut [u64], cells: &mut [u64], bytes: &mut [u8], tex
     if !says(nodes, cells, bytes, key, text) {
         return false;
     }
-    sum::of(nodes, cells, bytes) == hex::sixteen(text, 35)
+    replay_sum::of(nodes, cells, bytes) == hex::sixteen(text, 35)
 }
 
 // Makes the recorded call; whether it says what the line has.

@@ -1,7 +1,6 @@
 // Replays recorded calls on the index: prints each line that differs, and at the end how many lines there were and how many differ.
 // Each line has the sum of the memory after the call, so that every word and byte is held to the plain index of tests/plain.
 mod line;
-mod sum;
 
 use memory_layout::CELL_BYTES;
 use memory_layout::CELL_WORDS;

@@ -1,15 +1,19 @@
 -- What a put needs and lacks, and whether a cell is free: a law for each way in which the code returns. Assumes nothing.
-use mathlib.Core.Path.{_≡_, refl, ap, _∙_}
+use mathlib.Core.Path.{_≡_, refl, sym, ap, _∙_}
+use mathlib.Core.Bool.{true, false}
 use mathlib.Core.List.{List}
 use Prim.Native.Nat.{ℕ, _+_, _*_, _-_, _/_, _≤_, _<_}
 use native.Mathlib.Numerals.{add-one}
 use native.Mathlib.Omega.{arith}
 use borrow.Author.Needs.{needs}
-use lib.Dec.{leb}
+use borrow.Author.Tests.{le-leb}
 use lib.ListN.{length}
+use Rattle.lent_nodes.specs.declared.inside.Lowest.{Lowest}
+use Rattle.lent_nodes.specs.declared.inside.Lowest.the-variants.{At, Nothing}
+use Rattle.lent_nodes.proofs.Counts.{lowest-first, lowest-none}
 use Rattle.order.specs.Layer.{ikeyAt}
 use Rattle.arena.specs.Layout.{keyAt}
-use Rattle.arena.specs.Free.{freeNodes, freeCells}
+use Rattle.arena.specs.Free.{freeNodes, freeCells, lowest}
 use Rattle.arena.specs.Memory.{memory, nodeCount}
 use Rattle.forest.specs.Walk.{heightAt}
 use Rattle.model.specs.declared.Met.{Met}
@@ -38,8 +42,15 @@ module _ (nodes cells bytes key : List ℕ) {met : Met} where
 
 -- ---- what is free
 
-pub cell-free : (cells : List ℕ) {f : ℕ} → f ≡ length (freeCells cells (length cells / 2)) → leb 1 f ≡ hasCellIn cells
-cell-free cells e = rw e
+module _ (cells : List ℕ) {r : Lowest} (e : r ≡ lowest (freeCells cells (length cells / 2))) where
+  pub cell-free : {k : ℕ} → r ≡ At k → true ≡ hasCellIn cells
+  cell-free a =
+      let (rest, q) = lowest-first (freeCells cells (length cells / 2)) (sym e ∙ a) in
+      let h : 1 ≤ length (freeCells cells (length cells / 2)) = rw q (omega arith) in
+      sym (le-leb 1 (length (freeCells cells (length cells / 2))) h)
+
+  pub cell-none : r ≡ Nothing → false ≡ hasCellIn cells
+  cell-none a = rw (lowest-none (freeCells cells (length cells / 2)) (sym e ∙ a)) refl
 
 module _ (nodes cells bytes key : List ℕ) (met : Met) (l : Lent nodes cells bytes met) {g need : ℕ}
     (eg : g ≡ length (freeNodes nodes (length nodes / 47))) (en : need ≡ neededAt (memory nodes cells bytes) key met) where
@@ -52,4 +63,4 @@ module _ (nodes cells bytes key : List ℕ) (met : Met) (l : Lent nodes cells by
   pub some-lacking : g < need → need - g ≡ lackingAt (memory nodes cells bytes) key met
   some-lacking d = rw (← en, ← free) refl
 
-pub ruleset counting = (needs, need-conflict, need-missing, cell-free, none-lacking, some-lacking)
+pub ruleset counting = (needs, need-conflict, need-missing, cell-free, cell-none, none-lacking, some-lacking)

@@ -91,7 +91,10 @@ fn needed(nodes: &[u64], cells: &[u64], bytes: &[u8], key: &[u8], met: Met) -> u
 pub fn has_cell(cells: &[u64]) -> bool
     ensures { λ r. ⌜ r ≡ hasCellIn (now (cells .entry)) ⌝ }
 {
-    1 <= arena::inside::free_cells(cells, cells.len() / CELL_WORDS)
+    let Lowest::At(_) = arena::inside::lowest_free_cell(cells, cells.len() / CELL_WORDS) else {
+        return false;
+    };
+    true
 }
 
 // How many nodes a put lacks at the place that its key has met; 0 where as many are free as it needs.
@@ -99,8 +102,11 @@ pub fn lacking(nodes: &[u64], cells: &[u64], bytes: &[u8], key: &[u8], met: Met)
     requires { ⌜ Lent (now nodes) (now cells) (now bytes) met ⌝ }
     ensures { λ r. ⌜ r ≡ lackingAt (memory (now (nodes .entry)) (now (cells .entry)) (now (bytes .entry))) (now (key .entry)) met ⌝ }
 {
-    let free = arena::inside::free_nodes(nodes, nodes.len() / NODE_WORDS);
     let need = needed(nodes, cells, bytes, key, met);
+    if need == 0 {
+        return 0;
+    }
+    let free = arena::inside::free_nodes(nodes, nodes.len() / NODE_WORDS);
     if need <= free {
         return 0;
     }

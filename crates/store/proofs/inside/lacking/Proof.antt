@@ -9,6 +9,7 @@ lacking-spec =
     tie.close
     (tie.spec
     (λ c κs. search needs)
+    (λ c. search needs)
     (λ c κs. search needs)
     (λ c. search counting)
     (λ c. search needs)

@@ -1,0 +1,3 @@
+pub mod Exams
+pub mod Counts
+pub mod Fills

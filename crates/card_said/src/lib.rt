@@ -1,0 +1,1 @@
+// What saving an index to an image and reading it back answer and leave, and what that means.

@@ -1,0 +1,2 @@
+// All cells in key order, listed by one walk.
+pub mod inside;
