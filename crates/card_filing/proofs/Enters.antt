@@ -1,37 +1,29 @@
 -- One law for each way in which the code returns, and for the turns of its loops. Assumes nothing.
-use Prim.Native.Nat.{ℕ, zero, suc, _+_, _*_, _-_, _<_, _≤_}
-use mathlib.Core.Path.{_≡_, refl, sym, ap, _∙_, subst}
-use mathlib.Core.Bool.{Bool, true, false, cond}
-use mathlib.Core.List.{List, [], _∷_, foldl-append}
+use Prim.Native.Nat.{ℕ, _-_, _≤_}
+use mathlib.Core.Path.{_≡_, sym, subst}
+use mathlib.Core.Bool.{true, false}
+use mathlib.Core.List.{List, [], _∷_}
 use native.Mathlib.Omega.{arith}
-use native.Mathlib.Numerals.{add-one}
 use denote.Enum.Declared.{tagOf}
 use types.Run.{OneOf}
-use borrow.Author.Needs.{needs}
 use borrow.Author.Tests.{ne-eqb}
-use lib.Dec.{eqb}
 use lib.ListN.{length, take, drop, length-take}
-use lib.Seq.{length-take-le}
 use Rattle.refusal.specs.declared.Refusal.{Refusal}
 use Rattle.refusal.specs.Refusals.{numberOf}
 use Rattle.refusal.proofs.Laws.{number-pos}
-use Rattle.lent_words.specs.Parts.{part}
-use Rattle.lent_words.proofs.Words.{between}
-use Rattle.arena.specs.Memory.{Memory, memory, Did, did, rightLengths}
+use Rattle.arena.specs.Memory.{Memory, Did, did, rightLengths}
 use Rattle.card_stream.specs.Cuts.{arrived}
 use Rattle.card_fields.specs.declared.Fields.{Fields}
-use Rattle.card_fields.specs.Step.{State, step}
+use Rattle.card_fields.specs.Step.{step}
 use Rattle.card_fields.specs.Fits.{Fits}
 use Rattle.card_fields.proofs.Small.{Safe, step-safe}
-use Rattle.card_stream.specs.Payload.{payload}
 use Rattle.index_put.specs.declared.Added.{Added}
 use Rattle.index_put.specs.declared.Added.the-variants as added-is
 use Rattle.index_put.proofs.Added as added-type
 use Rattle.model.specs.Calls.{putLent}
 use Rattle.index_put.specs.Answers.{saidAdded}
 use Rattle.map_loads.specs.Loads.{andPut}
-use Rattle.card_filing.specs.declared.Filing.{Filing}
-use Rattle.card_filing.specs.Filing.{Both, entered, stepPutting, both}
+use Rattle.card_filing.specs.Filing.{Both, entered, stepPutting}
 
 -- ---- right lengths stay
 
@@ -104,22 +96,6 @@ module _ (field key : List ℕ) (s : Fields) (d : Did) {field' key' : List ℕ} 
   pub all-fit : (bytes : List ℕ) → length field ≡ 256 → length key ≡ 256 → Fits s
       → ((field', key', s'), d') ≡ arrived stepPutting ((field, key, s), d) bytes → Fits s'
   all-fit bytes f k g n = subst (λ (p : Both). Fits (p .0 .2)) (sym n) (all-sure bytes ((field, key, s), d) (f, k, g) .2)
-
--- ---- the blocks of an image
-
-pub blocks-none : (image : List ℕ) (p : Both) → p ≡ arrived stepPutting p (payload 0 image)
-unfolding payload
-blocks-none image p = refl
-
-pub blocks-more : (image : List ℕ) (i : ℕ) (p₀ p : Both) {u : Both} → p ≡ arrived stepPutting p₀ (payload i image)
-    → u ≡ arrived stepPutting p (take (512 * i + 504 - 512 * i) (drop (512 * i) image)) → u ≡ arrived stepPutting p₀ (payload (i + 1) image)
-unfolding payload
-blocks-more image i p₀ p e f =
-    rw (add-one i, foldl-append stepPutting p₀ (payload i image) (part image (512 * i) 504), ← e, ← (between image (512 * i) 504)) f
-
-pub blocks-last : (image : List ℕ) (n i : ℕ) (p₀ : Both) {p : Both} → i ≤ n → n ≤ i → p ≡ arrived stepPutting p₀ (payload i image)
-    → p ≡ arrived stepPutting p₀ (payload n image)
-blocks-last image n i p₀ h k e = let d : i ≡ n = omega arith in rw (← d) e
 
 -- ---- the last key
 

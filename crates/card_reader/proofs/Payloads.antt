@@ -1,12 +1,10 @@
 -- Laws on the blocks of an image: the loops over them, and what the writer's image holds. Assumes nothing.
 use Prim.Native.Nat.{ℕ, suc, _+_, _*_, _-_, _%_, _^_, _<_, _≤_}
-use mathlib.Core.Path.{_≡_, refl, sym, subst}
+use mathlib.Core.Path.{_≡_, sym, subst}
 use mathlib.Core.Bool.{Bool, true, false, cond}
-use mathlib.Core.List.{List, [], _∷_, foldl-append}
+use mathlib.Core.List.{List, [], _∷_}
 use native.Mathlib.Omega.{arith}
-use native.Mathlib.Numerals.{add-one}
 use lib.ListN.{length, take, drop}
-use Rattle.lent_words.specs.Parts.{part}
 use Rattle.lent_words.proofs.Words.{between}
 use Rattle.card_stream.specs.Cuts.{arrived}
 use Rattle.card_block.specs.Check.{plus, checkOf, goodBlock}
@@ -14,7 +12,7 @@ use Rattle.card_fields.specs.declared.Fields.{Fields}
 use Rattle.card_fields.specs.Step.{State, step}
 use Rattle.card_fields.specs.Fits.{Fits}
 use Rattle.card_fields.proofs.Small.{Safe, step-safe}
-use Rattle.card_stream.specs.Payload.{payload, firstBad}
+use Rattle.card_stream.specs.Payload.{firstBad}
 
 -- a block's number runs round as its sums do
 pub good-round : (i : ℕ) (block : List ℕ) → goodBlock (i % 2 ^ 32) block ≡ goodBlock i block
@@ -43,21 +41,7 @@ module _ (image : List ℕ) (n : ℕ) where
   unfolding firstBad
   bad-none i h e = let j : n - i ≡ 0 = omega arith in rw j at e
 
--- the machine over the blocks: before the first, one block further, behind the last
-pub take-none : (image : List ℕ) (t : State) → t ≡ arrived step t (payload 0 image)
-unfolding payload
-take-none image t = refl
-
-pub take-more : (image : List ℕ) (i : ℕ) (t₀ t : State) {u : State} → t ≡ arrived step t₀ (payload i image)
-    → u ≡ arrived step t (take (512 * i + 504 - 512 * i) (drop (512 * i) image)) → u ≡ arrived step t₀ (payload (i + 1) image)
-unfolding payload
-take-more image i t₀ t e f =
-    rw (add-one i, foldl-append step t₀ (payload i image) (part image (512 * i) 504), ← e, ← (between image (512 * i) 504)) f
-
-pub take-last : (image : List ℕ) (n i : ℕ) (t₀ : State) {t : State} → i ≤ n → n ≤ i → t ≡ arrived step t₀ (payload i image)
-    → t ≡ arrived step t₀ (payload n image)
-take-last image n i t₀ h k e = let d : i ≡ n = omega arith in rw (← d) e
-
+-- the machine's numbers stay small
 all-safe : (bytes : List ℕ) (t : State) → Safe t → Safe (arrived step t bytes)
 all-safe [] t h = h
 all-safe (x ∷ bytes) t h = all-safe bytes (step t x) (step-safe t x h)

@@ -7,8 +7,9 @@ use Rattle.arena.specs.Memory.{memory}
 use Rattle.card_stream.specs.Cuts.{arrived}
 use Rattle.card_fields.specs.Fits.{Fits}
 use Rattle.card_stream.specs.Payload.{payload}
+use Rattle.card_stream.proofs.Folds.{blocks-none, blocks-more, blocks-last}
 use Rattle.card_filing.specs.Filing.{stepPutting, both}
-use Rattle.card_filing.proofs.Enters.{right-kept, all-fit, blocks-none, blocks-more, blocks-last}
+use Rattle.card_filing.proofs.Enters.{right-kept, all-fit}
 use Rattle.card_filing.proofs.inside.enter_blocks.Statement.{statement}
 use Rattle.card_filing.proofs.inside.enter_blocks.Tie as tie
 
@@ -22,16 +23,16 @@ abbrev μ-loop : tie.MeasureT-loop
 μ-loop nodes₀ cells₀ bytes₀ field₀ key₀ image n t₀ i₀ nodes cells bytes field key t i = n - i
 
 loop-holds : tie.Need-loop-holds Inv-loop μ-loop
-loop-holds c = (search needs, search needs, search needs, search needs, search needs, search needs, search needs, search blocks-none)
+loop-holds c = (search needs, search needs, search needs, search needs, search needs, search needs, search needs, search (blocks-none stepPutting))
 
 enter-bytes-requires : tie.Need-enter-bytes-requires Inv-loop μ-loop
 enter-bytes-requires c κs = (search (needs, right-kept), search needs, search needs, search needs)
 
 loop-again : tie.Need-loop-again Inv-loop μ-loop
-loop-again c = (search needs, search needs, search needs, search needs, search needs, search needs, search all-fit, search blocks-more)
+loop-again c = (search needs, search needs, search needs, search needs, search needs, search needs, search all-fit, search (blocks-more stepPutting))
 
 returns : tie.Need-returns Inv-loop μ-loop
-returns c = search blocks-last
+returns c = search (blocks-last stepPutting)
 
 pub enter-blocks-spec : {M : Type 1} → statement M
 enter-blocks-spec =

@@ -7,7 +7,8 @@ use Rattle.card_stream.specs.Cuts.{arrived}
 use Rattle.card_fields.specs.Step.{step}
 use Rattle.card_fields.specs.Fits.{Fits}
 use Rattle.card_stream.specs.Payload.{payload}
-use Rattle.card_reader.proofs.Payloads.{take-none, take-more, take-last, after-fits}
+use Rattle.card_stream.proofs.Folds.{blocks-none, blocks-more, blocks-last}
+use Rattle.card_reader.proofs.Payloads.{after-fits}
 use Rattle.card_reader.proofs.inside.take_blocks.Statement.{statement}
 use Rattle.card_reader.proofs.inside.take_blocks.Tie as tie
 
@@ -19,13 +20,13 @@ abbrev μ-loop : tie.MeasureT-loop
 μ-loop image n field₀ key₀ t₀ i₀ field key t i = n - i
 
 loop-holds : tie.Need-loop-holds Inv-loop μ-loop
-loop-holds c = (search needs, search needs, search needs, search needs, search take-none)
+loop-holds c = (search needs, search needs, search needs, search needs, search (blocks-none step))
 
 loop-again : tie.Need-loop-again Inv-loop μ-loop
-loop-again c = (search needs, search needs, search needs, search after-fits, search take-more)
+loop-again c = (search needs, search needs, search needs, search after-fits, search (blocks-more step))
 
 returns : tie.Need-returns Inv-loop μ-loop
-returns c = search take-last
+returns c = search (blocks-last step)
 
 pub take-blocks-spec : {M : Type 1} → statement M
 take-blocks-spec =
