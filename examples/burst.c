@@ -33,6 +33,28 @@ static void capture(const char *frame) {
     printf("  %s goes into buffer %zu\n", frame, buffer);
 }
 
+/* Where a buffer stands: its position, which must be remembered by whoever wants to take its release back. */
+static size_t position_of(size_t buffer) {
+    size_t position = 0, found = 0;
+    accepted(cherchivola_get(bank, BUFFERS, position, &found));
+    while (found != buffer) accepted(cherchivola_get(bank, BUFFERS, ++position, &found));
+    return position;
+}
+
+/* A frame was stored on the card: its buffer rests behind all other free ones. */
+static void release(size_t buffer) {
+    accepted(cherchivola_remove_slot(&bank, BUFFERS, buffer));
+    printf("  buffer %zu is released\n", buffer);
+}
+
+/* The last release is taken back: its buffer is in use again, at the position that it had. */
+static void take_back(size_t position) {
+    size_t buffer = 0;
+    accepted(cherchivola_insert_first_free(&bank, BUFFERS, position));
+    accepted(cherchivola_get(bank, BUFFERS, position, &buffer));
+    printf("  buffer %zu is in use again\n", buffer);
+}
+
 /* The last frame was nothing: its buffer goes out next, as if it had never been taken. */
 static void withdraw_last(void) {
     size_t buffer = 0;
@@ -69,18 +91,30 @@ int main(void) {
     show();
     printf("  the word is %s before that burst\n", bank == before ? "that from" : "NOT that from");
 
-    printf("A true burst gets the same buffers again\n");
+    printf("One more, during which frame 1 is stored on the card\n");
+    size_t position = position_of(0);
     capture("frame 5");
+    release(0);
     capture("frame 6");
+    printf("It is withdrawn too, the last call first\n");
+    withdraw_last();
+    take_back(position);
+    withdraw_last();
+    show();
+    printf("  the word is %s before that burst\n", bank == before ? "that from" : "NOT that from");
 
-    printf("Frame 1 was stored on the card: buffer 0 is released\n");
-    accepted(cherchivola_remove_slot(&bank, BUFFERS, 0));
+    printf("A true burst gets the same buffers again\n");
+    capture("frame 7");
+    capture("frame 8");
+
+    printf("Frame 1 was stored on the card\n");
+    release(0);
     show();
 
     printf("Of all free buffers, the one released last is overwritten last\n");
-    capture("frame 7");
-    capture("frame 8");
     capture("frame 9");
+    capture("frame 10");
+    capture("frame 11");
     show();
 
     size_t buffer = 99;

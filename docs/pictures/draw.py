@@ -28,7 +28,7 @@ ROOMS = {
     "what it means: a sorted map": ("meaning", "what it means", "the index answers as a sorted map"),
     "lines in, lines out": ("lines", "lines in, lines out", "the program, and what it prints"),
     "the index saved to a card": ("card", "the card", "the index saved as blocks with checks, and read back; the program that does both"),
-    "for the camera": ("camera", "for the camera", "38 calls for C, and how answers cross"),
+    "for the camera": ("camera", "for the camera", "39 calls for C, and how answers cross"),
     "for the auditor": ("demands", "for the auditor", "the demands as theorems"),
     "programs that replay recorded answers": ("side", "replay programs", "beside what they ask"),
 }

@@ -114,6 +114,7 @@ static void call_remove(void) { returned(cherchivola_remove(word(0, 0), at(1), a
 static void call_remove_to_back(void) { returned(cherchivola_remove_to_back(word(0, 0), at(1), at(2))), tell_word(0); }
 static void call_exchange(void) { returned(cherchivola_exchange(word(0, 0), at(1), at(2), at(3))), tell_word(0); }
 static void call_rotate(void) { returned(cherchivola_rotate(word(0, 0), at(1), at(2), at(3))), tell_word(0); }
+static void call_insert_first_free(void) { returned(cherchivola_insert_first_free(word(0, 0), at(1), at(2))), tell_word(0); }
 static void call_remove_slot(void) { returned(cherchivola_remove_slot(word(0, 0), at(1), at(2))), tell_word(0); }
 
 static void call_insert_from_back(void) {
@@ -347,8 +348,8 @@ static const struct named notes[] = {
 #define CALL(name) {#name, call_##name}
 static const struct named calls[] = {
     CALL(empty), CALL(make_sorted), CALL(from_value), CALL(size), CALL(get), CALL(back), CALL(back_at_offset), CALL(set_size),
-    CALL(swap_free_slots), CALL(insert_from_back), CALL(remove), CALL(remove_to_back), CALL(remove_slot), CALL(exchange), CALL(rotate),
-    CALL(read_ikey), CALL(compare_keys), CALL(key_new), CALL(key_shift), CALL(key_shift_by), CALL(key_unshift), CALL(key_unshift_all),
+    CALL(swap_free_slots), CALL(insert_from_back), CALL(insert_first_free), CALL(remove), CALL(remove_to_back), CALL(remove_slot),
+    CALL(exchange), CALL(rotate), CALL(read_ikey), CALL(compare_keys), CALL(key_new), CALL(key_shift), CALL(key_shift_by), CALL(key_unshift), CALL(key_unshift_all),
     CALL(key_compare), CALL(key_compare_suffix), CALL(find_insert_position), CALL(compare_key), CALL(child_for),
     CALL(insert_key_and_child), CALL(lengths), CALL(clear), CALL(put), CALL(remove_key), CALL(find), CALL(kth), CALL(count), CALL(audit),
     CALL(save), CALL(load)};

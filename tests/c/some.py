@@ -12,10 +12,10 @@ FAR = [0, 1, 15, 16, 17, 64, 1 << 32, 1 << 60, TOP - 7, TOP - 1, TOP]
 # How many arguments each takes behind the word and the width, or the width alone.
 MAKES = {"empty": 0, "make_sorted": 1}
 ASKS = {"size": 0, "get": 1, "back": 0, "back_at_offset": 1}
-CHANGES = {"set_size": 1, "swap_free_slots": 2, "insert_from_back": 1, "remove": 1, "remove_to_back": 1, "remove_slot": 1,
-           "exchange": 2, "rotate": 2}
+CHANGES = {"set_size": 1, "swap_free_slots": 2, "insert_from_back": 1, "insert_first_free": 1, "remove": 1, "remove_to_back": 1,
+           "remove_slot": 1, "exchange": 2, "rotate": 2}
 SLOT_CALLS = ["empty", "make_sorted", "from_value", "size", "get", "back", "back_at_offset", "set_size", "swap_free_slots",
-              "insert_from_back", "remove", "remove_to_back", "remove_slot", "exchange", "rotate"]
+              "insert_from_back", "insert_first_free", "remove", "remove_to_back", "remove_slot", "exchange", "rotate"]
 KEY_CALLS = ["read_ikey", "compare_keys", "key_new", "key_shift", "key_shift_by", "key_unshift", "key_unshift_all", "key_compare",
              "key_compare_suffix"]
 NODE_CALLS = ["find_insert_position", "compare_key", "child_for", "insert_key_and_child"]

@@ -88,6 +88,12 @@ def insert_from_back(word, width, i):
                    lambda size, slots: (words.packed(size + 1, slots[:i] + slots[-1:] + slots[i:-1]), slots[-1]))
 
 
+# The slot at position size goes to i, and positions i to size-1 move up one.
+def insert_first_free(word, width, i):
+    return on_word(word, width, lambda size: [(POSITION, i <= size), (FULL, size < width)],
+                   lambda size, slots: left(size + 1, slots[:i] + [slots[size]] + slots[i:size] + slots[size + 1:]))
+
+
 # Positions i+1 to size-1 move down one, and the slot comes to rest at size-1.
 def without(size, slots, i):
     return left(size - 1, slots[:i] + slots[i + 1:size] + [slots[i]] + slots[size:])
@@ -110,3 +116,29 @@ def remove_to_back(word, width, i):
 def rotate(word, width, i, j):
     return on_word(word, width, lambda size: [(POSITION, i <= j <= width)],
                    lambda size, slots: left(size, slots[:i] + slots[j:] + slots[i:j]))
+
+
+# ---- a run of calls, withdrawn
+
+# The opposite of an accepted call of a run, as its name and its argument; the word is the one before the call.
+def opposite(name, word, a):
+    if name == "insert_from_back":
+        return "remove_to_back", a
+    return "insert_first_free", a if name == "remove" else words.in_use(word).index(a)
+
+
+# The calls of a run, first to last, and then the opposites of those that were accepted, last first: each as its name, the word before
+# it, its argument and its answer.
+def withdrawn(word, width, run):
+    told, back = [], []
+    for name, a in run:
+        answer = globals()[name](word, width, a)
+        told.append((name, word, a, answer))
+        if answer[0] == 0:
+            back.append(opposite(name, word, a))
+            word = answer[1]
+    for name, a in reversed(back):
+        answer = globals()[name](word, width, a)
+        told.append((name, word, a, answer))
+        word = answer[1]
+    return told

@@ -66,12 +66,14 @@ def check_words(scale):
     return "widths 1 to 15"
 
 
-# The calls on slot words: document 01's examples and refusals, and on random walks the moves of words.py; both removals undo an insertion.
+# The calls on slot words: document 01's examples and refusals, and on random walks the moves of words.py; both removals undo an insertion,
+# and what was removed goes back.
 def check_bank(scale):
     p1, p2, p3 = 0x0123456789ABCDE0, 0x123456789ABCDE01, 0x23456789ABCDE012
     same(bank.empty(15), (0, p1, None), "P1")
     same((bank.insert_from_back(p1, 15, 0), bank.insert_from_back(p2, 15, 0)), ((0, p2, 0), (0, p3, 1)), "P2 and P3")
     same((bank.remove(p3, 15, 0), bank.remove_to_back(p3, 15, 0)), ((0, 0x23456789ABCDE101, None), (0, p2, None)), "P4 and P5")
+    same((bank.insert_first_free(0x23456789ABCDE101, 15, 0), bank.insert_first_free(p1, 15, 1)[0]), ((0, p3, None), 4), "P4 taken back")
     same(bank.make_sorted(15, 15), (0, 0xEDCBA9876543210F, None), "P6")
     same((bank.insert_from_back(0x1201, 3, 1), bank.rotate(0x2102, 3, 0, 1)), ((0, 0x2102, 1), (0, 0x0212, None)), "P7 and P8")
     same([bank.get(p1, 16, 99)[0], bank.get(0, 3, 99)[0], bank.get(p1, 15, 15)[0]], [1, 2, 4], "the lowest number")
@@ -87,6 +89,9 @@ def check_bank(scale):
         same((more, slot), (words.insert_from_back(word, width, i), bank.back(word, width)[2]), "insert")
         same(bank.remove_to_back(more, width, i)[1], word, "withdrawn")
         same(bank.remove_slot(more, width, slot), bank.remove(more, width, i), "by slot")
+        fewer = bank.remove(word, width, i)[1]
+        same((bank.back_at_offset(fewer, width, width - words.size_of(word))[2], bank.insert_first_free(fewer, width, i)[1]),
+             (words.slot_at(word, i), word), "the removed slot goes back")
     return "P1 to P8"
 
 

@@ -1,21 +1,43 @@
 -- Slots go out in the order of the free list, and a withdrawn run leaves no trace, at every width. Assumes nothing.
-use mathlib.Core.Path.{_≡_, refl, sym, ap, ap₂, _∙_}
-use mathlib.Core.Bool.{Bool, true, false, cond, _&&_}
+use mathlib.Core.Path.{_≡_, refl, sym, ap, ap₂, _∙_, subst}
+use mathlib.Core.Bool.{Bool, true, false, cond}
 use mathlib.Core.List.{List, [], _∷_, _++_, reverse, append-assoc, append-nil, reverse-cons, reverse-append, reverse-reverse}
 use Prim.Native.Nat.{ℕ, suc, _+_, _-_, _≤_, _<_}
 use native.Mathlib.Omega.{arith}
 use lib.ListN.{length, getD, take, drop}
 use lib.Seq.{drop-cons, drop-length, drop-at, take-at}
-use lib.Dec.{leb, ltb}
-use borrow.Author.Tests.{leb-true, ltb-true, lt-ltb}
+use lib.Dec.{leb→le, ltb→lt}
+use borrow.Author.Tests.{le-leb, lt-ltb}
 use Rattle.refusal.specs.Answer.{allHold}
 use Rattle.bank.specs.Lists.{turned, part, up}
-use Rattle.bank.specs.Bank.{Bank, width, slotAt, placeInUse, sorted, insertedFromBack, removed, removedToBack}
-use Rattle.bank.specs.Calls.{Change, insertFromBack, removeToBack}
-use Rattle.bank.specs.History.{Done, Call, inserting, removing, removingSlot, asChange, Step, call, burst, withoutBursts, takenBack, withdrawnRun, ran, bankDoes, free}
+use Rattle.bank.specs.Bank.{Bank, width, slotAt, placeInUse, sorted, insertedFromBack, insertedFirstFree, removed, removedToBack}
+use Rattle.bank.specs.Calls.{Change, fromValue, insertFromBack, insertFirstFree, remove, removeSlot, changeRules, after}
+use Rattle.bank.specs.History.{
+  Done,
+  nothing,
+  andThen,
+  Call,
+  inserting,
+  removing,
+  removingSlot,
+  asChange,
+  Step,
+  call,
+  burst,
+  withoutBursts,
+  takenBack,
+  inTurn,
+  withdrawn,
+  ran,
+  oppositesOf,
+  did,
+  bankDoes,
+  free,
+}
 use Rattle.bank.proofs.Counts.{place-found}
 use Rattle.bank.proofs.Moves.{length-turned, part-one, part-rest, drop-turned, turned-back}
-use Rattle.bank.proofs.Sorted.{sorted-slots, sorted-size, sorted-width, length-up}
+use Rattle.bank.proofs.Sorted.{sorted-slots, sorted-size, length-up}
+use Rattle.bank.proofs.Kept.{Fits, first-test, second-test, fits-after}
 
 -- ---- the free list before and after one move
 
@@ -55,151 +77,181 @@ free-removed i n ps h l =
 
 -- ---- one call
 
--- The size is at most the width after the call, and the free list before it, with what it releases behind, is what it
--- hands out and then the free list after it.
-pub record Queued (b : Bank) (d : Done Bank) : Type 0 where
-  pub fits : d .now .size ≤ width (d .now)
-  pub wide : width (d .now) ≡ width b
-  pub queue : free b ++ d .released ≡ d .handed ++ free (d .now)
-
-module _ (b : Bank) (h : b .size ≤ width b) where
-  unchanged : Queued b (record { now = b; handed = []; released = [] })
-  unchanged = record { fits = h; wide = refl; queue = append-nil (free b) }
-
-  queued-insert : (i : ℕ) → Queued b (bankDoes (insertFromBack i) b)
-  unfolding bankDoes allHold
-  queued-insert i = by (leb i (b .size)) (ltb (b .size) (width b)) (leb-true i (b .size)) (ltb-true (b .size) (width b))
+-- a call is accepted, where each of its conditions holds, or does nothing
+module _ (c : Change) (b : Bank) where
+  by-cases : (P : Done Bank → Type 0) → (allHold (changeRules c b) ≡ true → P (did c b)) → P (nothing b) → P (bankDoes c b)
+  unfolding bankDoes
+  by-cases P f g = pick (allHold (changeRules c b)) refl
     where
-      by : (p q : Bool) → (p ≡ true → i ≤ b .size) → (q ≡ true → b .size < width b)
-          → Queued b (cond (p && (q && true))
-          (record { now = insertedFromBack i b; handed = slotAt (width b - 1) b ∷ []; released = [] })
-          (record { now = b; handed = []; released = [] }))
-      by true true f g =
-          let l : length (turned i (width b - 1) (width b) (b .slots))
-          ≡ width b = length-turned i (width b - 1) (width b) (b .slots) (omega (arith, f refl, g refl)) (omega arith) in
-          record {
-            fits = omega (arith, l, g refl);
-            wide = l;
-            queue = append-nil (free b)
-                ∙ free-inserted i (b .size) (b .slots) (f refl) (g refl);
-          }
-      by true false f g = unchanged
-      by false q f g = unchanged
+      pick : (p : Bool) → allHold (changeRules c b) ≡ p → P (cond p (did c b) (nothing b))
+      pick true e = f e
+      pick false e = g
 
+  does-if : allHold (changeRules c b) ≡ true → bankDoes c b ≡ did c b
+  unfolding bankDoes
+  does-if e = rw e
+
+  pub fits-does : (w : ℕ) → Fits w b → Fits w (bankDoes c b .now)
+  fits-does w f = by-cases (λ d. Fits w (d .now)) (fits-after w b f c) f
+
+-- The free list before calls, with what they release behind, is what they hand out and then the free list after them.
+abbrev Queued : Bank → Done Bank → Type 0
+Queued b d = free b ++ d .released ≡ d .handed ++ free (d .now)
+
+module _ (w : ℕ) (b : Bank) (f : Fits w b) where
   -- both removals: at a position, and where a slot is in use
-  queued-removed : (i : ℕ) (freed : List ℕ) (p : Bool) → (p ≡ true → (i < b .size) × (freed ≡ slotAt i b ∷ []))
-      → Queued b (cond (p && true) (record { now = removed i b; handed = []; released = freed })
-      (record { now = b; handed = []; released = [] }))
-  queued-removed i freed true f =
-      let l : length (turned i (i + 1) (b .size) (b .slots))
-      ≡ width b = length-turned i (i + 1) (b .size) (b .slots) (omega arith) (omega (arith, f refl .0)) in
-      record {
-        fits = omega (arith, l, f refl .0);
-        wide = l;
-        queue = ap (λ (r : List ℕ). free b ++ r) (f refl .1) ∙ free-removed i (b .size) (b .slots) (f refl .0) h;
-      }
-  queued-removed i freed false f = unchanged
+  queued-removed : (i : ℕ) → i < b .size → free b ++ slotAt i b ∷ [] ≡ free (removed i b)
+  queued-removed i l = free-removed i (b .size) (b .slots) l (omega (arith, f .wide, f .sized))
 
   -- the place of a slot that is in use holds it
   in-use : (s : ℕ) → placeInUse s b < b .size → s ≡ slotAt (placeInUse s b) b
   in-use s l =
-      let n : length (take (b .size) (b .slots)) ≡ b .size = lib.Seq.length-take-le (b .size) (b .slots) h in
+      let n : length (take (b .size) (b .slots))
+      ≡ b .size = lib.Seq.length-take-le (b .size) (b .slots) (omega (arith, f .wide, f .sized)) in
       sym (place-found s (take (b .size) (b .slots)) (omega arith)) ∙ lib.Seq.getD-take (b .size) (b .slots) (placeInUse s b) 0 l
 
-  pub queued : (c : Call) → Queued b (bankDoes (asChange c) b)
-  unfolding bankDoes allHold
-  queued (inserting i) = queued-insert i
-  queued (removing i) = queued-removed i (slotAt i b ∷ []) (ltb i (b .size)) (λ e. (ltb-true i (b .size) e, refl))
-  queued (removingSlot s) =
-      queued-removed (placeInUse s b) (s ∷ []) (ltb (placeInUse s b) (b .size))
-      (λ e. (ltb-true (placeInUse s b) (b .size) e, ap (λ (x : ℕ). x ∷ []) (in-use s (ltb-true (placeInUse s b) (b .size) e))))
+  queued-did : (c : Call) → allHold (changeRules (asChange c) b) ≡ true → Queued b (did (asChange c) b)
+  queued-did (inserting i) e =
+      let rules = changeRules (insertFromBack i) b in
+      append-nil (free b)
+      ∙ free-inserted i (b .size) (b .slots) (leb→le i (b .size) (first-test rules e)) (ltb→lt (b .size) (width b) (second-test rules e))
+  queued-did (removing i) e = queued-removed i (ltb→lt i (b .size) (first-test (changeRules (remove i) b) e))
+  queued-did (removingSlot s) e =
+      let l = ltb→lt (placeInUse s b) (b .size) (first-test (changeRules (removeSlot s) b) e) in
+      ap (λ (x : ℕ). free b ++ x ∷ []) (in-use s l) ∙ queued-removed (placeInUse s b) l
 
--- ---- an insertion withdrawn, and a run of them
+  queued : (c : Call) → Queued b (bankDoes (asChange c) b)
+  queued c = by-cases (asChange c) b (Queued b) (queued-did c) (append-nil (free b))
 
--- the opposite of an insertion
-pub back-again : (i : ℕ) (b : Bank) → i ≤ b .size → b .size < width b → removedToBack i (insertedFromBack i b) ≡ b
-back-again i b h l =
-    ap₂ bank (let e : b .size + 1 - 1 ≡ b .size = omega arith in e)
-    (ap₂ (λ (j k : ℕ). turned i j k (turned i (width b - 1) (width b) (b .slots)))
-    (let e : i + 1 ≡ i + (width b - (width b - 1)) = omega arith in e)
-    (length-turned i (width b - 1) (width b) (b .slots) (omega arith) (omega arith))
-    ∙ turned-back i (width b - 1) (width b) (b .slots) (omega arith) (omega arith) (omega arith))
-  where
-    bank : ℕ → List ℕ → Bank
-    bank n ps = record { size = n; slots = ps }
+-- ---- a call withdrawn, and a run of them
 
-takes-back : (i : ℕ) (b : Bank) → i < b .size → bankDoes (removeToBack i) b .now ≡ removedToBack i b
-unfolding bankDoes allHold
-takes-back i b h = rw (lt-ltb i (b .size) h)
+-- the opposite of a call of a history; each has one
+abbrev pub opposite : Call → Bank → Change
+opposite c b = getD (oppositesOf (asChange c) b) 0 fromValue
 
--- an insertion, accepted or refused, and its withdrawal
-withdrawn-one : (i : ℕ) (b : Bank)
-    → takenBack bankDoes i (bankDoes (insertFromBack i) b .handed) (bankDoes (insertFromBack i) b .now) ≡ b
-unfolding bankDoes allHold
-withdrawn-one i b = by (leb i (b .size)) (ltb (b .size) (width b)) (leb-true i (b .size)) (ltb-true (b .size) (width b))
-  where
-    by : (p q : Bool) → (p ≡ true → i ≤ b .size) → (q ≡ true → b .size < width b)
-        → (let d = cond {A = Done Bank} (p && (q && true))
-        (record { now = insertedFromBack i b; handed = slotAt (width b - 1) b ∷ []; released = [] })
-        (record { now = b; handed = []; released = [] }) in
-        takenBack bankDoes i (d .handed) (d .now)) ≡ b
-    by true true f g = takes-back i (insertedFromBack i b) (omega (arith, f refl)) ∙ back-again i b (f refl) (g refl)
-    by true false f g = refl
-    by false q f g = refl
+one-opposite : (c : Call) (b : Bank) → oppositesOf (asChange c) b ≡ opposite c b ∷ []
+one-opposite (inserting i) b = refl
+one-opposite (removing i) b = refl
+one-opposite (removingSlot s) b = refl
 
-pub withdrawn : (positions : List ℕ) (b : Bank) → b .size ≤ width b → withdrawnRun bankDoes positions b ≡ b
-unfolding withdrawnRun
-withdrawn [] b h = refl
-withdrawn (i ∷ positions) b h =
-    rw (withdrawn positions (bankDoes (insertFromBack i) b .now) (queued-insert b h i .fits)) (withdrawn-one i b)
+-- an accepted call is taken back by its opposite: that is accepted, and gives the bank of before
+pub record TakenBack (c : Call) (b : Bank) : Type 0 where
+  pub accepts : allHold (changeRules (opposite c b) (after (asChange c) b)) ≡ true
+  pub again : after (opposite c b) (after (asChange c) b) ≡ b
 
--- ---- a run of calls
+module _ (w : ℕ) (b : Bank) (f : Fits w b) where
+  abbrev bank : ℕ → List ℕ → Bank
+  bank n ps = record { size = n; slots = ps }
 
-pub ran-queued : (steps : List Step) (b : Bank) → b .size ≤ width b → Queued b (ran bankDoes steps b)
+  inserted-back : (i : ℕ) → i ≤ b .size → b .size < width b → removedToBack i (insertedFromBack i b) ≡ b
+  inserted-back i h l =
+      ap₂ bank (let e : b .size + 1 - 1 ≡ b .size = omega arith in e)
+      (ap₂ (λ (j k : ℕ). turned i j k (turned i (width b - 1) (width b) (b .slots)))
+      (let e : i + 1 ≡ i + (width b - (width b - 1)) = omega arith in e)
+      (length-turned i (width b - 1) (width b) (b .slots) (omega arith) (omega arith))
+      ∙ turned-back i (width b - 1) (width b) (b .slots) (omega arith) (omega arith) (omega arith))
+
+  removed-back : (i : ℕ) → i < b .size → insertedFirstFree i (removed i b) ≡ b
+  removed-back i h =
+      ap₂ bank (let e : b .size - 1 + 1 ≡ b .size = omega arith in e)
+      (ap₂ (λ (j k : ℕ). turned i j k (turned i (i + 1) (b .size) (b .slots)))
+      (let e : b .size - 1 ≡ i + (b .size - (i + 1)) = omega arith in e)
+      (let e : b .size - 1 + 1 ≡ b .size = omega arith in e)
+      ∙ turned-back i (i + 1) (b .size) (b .slots) (omega arith) (omega arith) (omega (arith, f .wide, f .sized)))
+
+  removed-accepts : (i : ℕ) → i < b .size → allHold (changeRules (insertFirstFree i) (removed i b)) ≡ true
+  unfolding allHold
+  removed-accepts i l =
+      rw (
+        length-turned i (i + 1) (b .size) (b .slots) (omega arith) (omega arith),
+        le-leb i (b .size - 1) (omega arith),
+        lt-ltb (b .size - 1) (width b) (omega (arith, f .wide, f .sized)),
+      )
+
+  pub taken-back : (c : Call) → allHold (changeRules (asChange c) b) ≡ true → TakenBack c b
+  unfolding allHold
+  taken-back (inserting i) e =
+      let l = leb→le i (b .size) (first-test (changeRules (insertFromBack i) b) e) in
+      record {
+        accepts = rw (lt-ltb i (b .size + 1) (omega (arith, l)));
+        again = inserted-back i l (ltb→lt (b .size) (width b) (second-test (changeRules (insertFromBack i) b) e));
+      }
+  taken-back (removing i) e =
+      let l = ltb→lt i (b .size) (first-test (changeRules (remove i) b) e) in
+      record { accepts = removed-accepts i l; again = removed-back i l }
+  taken-back (removingSlot s) e =
+      let l = ltb→lt (placeInUse s b) (b .size) (first-test (changeRules (removeSlot s) b) e) in
+      record { accepts = removed-accepts (placeInUse s b) l; again = removed-back (placeInUse s b) l }
+
+  -- a call, accepted or refused, and its withdrawal
+  pub withdrawn-one : (c : Call) → takenBack bankDoes (bankDoes (asChange c) b .opposites) (bankDoes (asChange c) b .now) ≡ b
+  withdrawn-one c =
+      by-cases (asChange c) b (λ d. takenBack bankDoes (d .opposites) (d .now) ≡ b)
+      (λ e.
+      let t = taken-back c e in
+      ap (λ (l : List Change). takenBack bankDoes l (after (asChange c) b)) (one-opposite c b)
+      ∙ ap (λ (d : Done Bank). d .now) (does-if (opposite c b) (after (asChange c) b) (t .accepts))
+      ∙ t .again)
+      refl
+
+-- whatever holds the bank: the first call of a run is withdrawn last
+module _ {Held : Type 0} (does : Change → Held → Done Held) where
+  taken-back-more : (first more : List Change) (held : Held)
+      → takenBack does (first ++ more) held ≡ takenBack does more (takenBack does first held)
+  taken-back-more [] more held = refl
+  taken-back-more (c ∷ first) more held = taken-back-more first more (does c held .now)
+
+  pub withdrawn-last : (c : Call) (run : List Call) (held : Held) → withdrawn does (c ∷ run) held
+      ≡ takenBack does (does (asChange c) held .opposites) (withdrawn does run (does (asChange c) held .now))
+  unfolding inTurn
+  withdrawn-last c run held =
+      let d = does (asChange c) held in
+      let e = inTurn does run (d .now) in
+      taken-back-more (e .opposites) (d .opposites) (e .now)
+
+pub withdrawn-run : (w : ℕ) (run : List Call) (b : Bank) → Fits w b → withdrawn bankDoes run b ≡ b
+unfolding inTurn
+withdrawn-run w [] b f = refl
+withdrawn-run w (c ∷ run) b f =
+    withdrawn-last bankDoes c run b
+    ∙ ap (takenBack bankDoes (bankDoes (asChange c) b .opposites))
+    (withdrawn-run w run (bankDoes (asChange c) b .now) (fits-does (asChange c) b w f))
+    ∙ withdrawn-one w b f c
+
+-- ---- a history
+
+ran-queued : (w : ℕ) (steps : List Step) (b : Bank) → Fits w b → Queued b (ran bankDoes steps b)
 unfolding ran
-ran-queued [] b h = unchanged b h
-ran-queued (call c ∷ steps) b h = joined (bankDoes (asChange c) b) (queued b h c)
-    (ran-queued steps (bankDoes (asChange c) b .now) (queued b h c .fits))
+ran-queued w [] b f = append-nil (free b)
+ran-queued w (call c ∷ steps) b f =
+    joined (bankDoes (asChange c) b) (ran bankDoes steps (bankDoes (asChange c) b .now)) (queued w b f c)
+    (ran-queued w steps (bankDoes (asChange c) b .now) (fits-does (asChange c) b w f))
   where
-    joined : (d : Done Bank) {e : Done Bank} → Queued b d → Queued (d .now) e
-        → Queued b (record { now = e .now; handed = d .handed ++ e .handed; released = d .released ++ e .released })
-    joined d {e} q r =
-        record {
-          fits = r .fits;
-          wide = r .wide ∙ q .wide;
-          queue =
-              sym (append-assoc (free b) (d .released) (e .released))
-              ∙ ap (λ (l : List ℕ). l ++ e .released) (q .queue)
-              ∙ append-assoc (d .handed) (free (d .now)) (e .released)
-              ∙ ap (λ (l : List ℕ). d .handed ++ l) (r .queue)
-              ∙ sym (append-assoc (d .handed) (e .handed) (free (e .now)));
-        }
-ran-queued (burst positions ∷ steps) b h = rw (withdrawn positions b h) (ran-queued steps b h)
+    joined : (d e : Done Bank) → Queued b d → Queued (d .now) e → Queued b (andThen d e)
+    joined d e q r =
+        sym (append-assoc (free b) (d .released) (e .released))
+        ∙ ap (λ (l : List ℕ). l ++ e .released) q
+        ∙ append-assoc (d .handed) (free (d .now)) (e .released)
+        ∙ ap (λ (l : List ℕ). d .handed ++ l) r
+        ∙ sym (append-assoc (d .handed) (e .handed) (free (e .now)))
+ran-queued w (burst run ∷ steps) b f =
+    subst (λ (x : Bank). Queued b (ran bankDoes steps x)) (sym (withdrawn-run w run b f)) (ran-queued w steps b f)
+
+-- the slots handed out are the first of those that were free, from the back forward, and then the released ones
+pub handed-in-order : (w : ℕ) (steps : List Step) (b : Bank) → Fits w b
+    → ran bankDoes steps b .handed ≡ take (length (ran bankDoes steps b .handed)) (free b ++ ran bankDoes steps b .released)
+handed-in-order w steps b f =
+    let r = ran bankDoes steps b in
+    sym (ap (take (length (r .handed))) (ran-queued w steps b f) ∙ take-at (r .handed) (free (r .now)) (length (r .handed)) refl)
+
+pub as-if-not : (w : ℕ) (steps : List Step) (b : Bank) → Fits w b → ran bankDoes steps b ≡ ran bankDoes (withoutBursts steps) b
+unfolding ran withoutBursts
+as-if-not w [] b f = refl
+as-if-not w (call c ∷ steps) b f = rw (as-if-not w steps (bankDoes (asChange c) b .now) (fits-does (asChange c) b w f))
+as-if-not w (burst run ∷ steps) b f = rw (withdrawn-run w run b f) (as-if-not w steps b f)
 
 -- slot n is at the back of the sorted bank, and the others before it
-free-sorted : (w n : ℕ) → n ≤ w → free (sorted w n) ≡ up n (w - n)
+pub free-sorted : (w n : ℕ) → n ≤ w → free (sorted w n) ≡ up n (w - n)
 free-sorted w n h =
     ap reverse (ap₂ drop (sorted-size w n h) (sorted-slots w n h) ∙ drop-at (up 0 n) (reverse (up n (w - n))) n (length-up 0 n))
     ∙ reverse-reverse (up n (w - n))
-
--- the slots handed out are the first of n, n+1, .., W-1 and then the released ones, in order of release
-pub handed-in-order : (w n : ℕ) → n ≤ w → (steps : List Step)
-    → ran bankDoes steps (sorted w n) .handed
-    ≡ take (length (ran bankDoes steps (sorted w n) .handed)) (up n (w - n) ++ ran bankDoes steps (sorted w n) .released)
-handed-in-order w n h steps =
-    let r = ran bankDoes steps (sorted w n) in
-    sym
-    (ap (λ (l : List ℕ). take (length (r .handed)) (l ++ r .released)) (sym (free-sorted w n h))
-    ∙ ap (take (length (r .handed))) (ran-queued steps (sorted w n) (rw (sorted-size w n h, sorted-width w n h) h) .queue)
-    ∙ take-at (r .handed) (free (r .now)) (length (r .handed)) refl)
-
--- ---- a history with bursts is the history without them, whatever holds the bank
-
-module _ {Held : Type 0} (does : Change → Held → Done Held) (Good : Held → Type 0)
-    (keeps : (c : Call) (held : Held) → Good held → Good (does (asChange c) held .now))
-    (back : (positions : List ℕ) (held : Held) → Good held → withdrawnRun does positions held ≡ held) where
-  pub as-if-not : (steps : List Step) (held : Held) → Good held → ran does steps held ≡ ran does (withoutBursts steps) held
-  unfolding ran withoutBursts
-  as-if-not [] held g = refl
-  as-if-not (call c ∷ steps) held g = rw (as-if-not steps (does (asChange c) held .now) (keeps c held g))
-  as-if-not (burst positions ∷ steps) held g = rw (back positions held g) (as-if-not steps held g)

@@ -2,5 +2,8 @@ pub mod Tests
 pub mod Counts
 pub mod Moves
 pub mod Sorted
+pub mod Kept
 pub mod History
 pub mod Rules
+pub mod Holder
+pub mod Returns

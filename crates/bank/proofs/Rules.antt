@@ -8,6 +8,7 @@ use Rattle.bank.specs.Calls.{
   setSize,
   swapFreeSlots,
   insertFromBack,
+  insertFirstFree,
   remove,
   removeToBack,
   removeSlot,
@@ -28,6 +29,7 @@ changes-listed fromValue b = tt
 changes-listed (setSize n) b = tt
 changes-listed (swapFreeSlots i j) b = tt
 changes-listed (insertFromBack i) b = tt
+changes-listed (insertFirstFree i) b = tt
 changes-listed (remove i) b = tt
 changes-listed (removeToBack i) b = tt
 changes-listed (removeSlot s) b = tt

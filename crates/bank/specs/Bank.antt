@@ -44,6 +44,11 @@ insertedFromBack i b = record { size = b .size + 1; slots = turned i (width b - 
 abbrev pub removed : ℕ → Bank → Bank
 removed i b = record { size = b .size - 1; slots = turned i (i + 1) (b .size) (b .slots) }
 
+-- the opposite of a removal: the first free slot, at position size, goes to i, old positions i to size-1 move up one, one more is in
+-- use
+abbrev pub insertedFirstFree : ℕ → Bank → Bank
+insertedFirstFree i b = record { size = b .size + 1; slots = turned i (b .size) (b .size + 1) (b .slots) }
+
 -- positions i+1 to W-1 move down one, the removed slot goes to W-1, the size falls by one
 abbrev pub removedToBack : ℕ → Bank → Bank
 removedToBack i b = record { size = b .size - 1; slots = turned i (i + 1) (width b) (b .slots) }

@@ -10,6 +10,7 @@ use Rattle.bank.specs.Bank.{
   slotAt,
   placeInUse,
   insertedFromBack,
+  insertedFirstFree,
   removed,
   removedToBack,
   rotated,
@@ -23,6 +24,7 @@ pub data Change : Type 0 where
   setSize : ℕ → Change
   swapFreeSlots : ℕ → ℕ → Change
   insertFromBack : ℕ → Change
+  insertFirstFree : ℕ → Change
   remove : ℕ → Change
   removeToBack : ℕ → Change
   removeSlot : ℕ → Change
@@ -43,6 +45,7 @@ changeRules (setSize n) b = (4 unless leb n (width b)) ∷ []
 changeRules (swapFreeSlots i j) b =
     (4 unless leb (b .size) i && ltb i (width b) && leb (b .size) j && ltb j (width b)) ∷ []
 changeRules (insertFromBack i) b = (4 unless leb i (b .size)) ∷ (5 unless ltb (b .size) (width b)) ∷ []
+changeRules (insertFirstFree i) b = (4 unless leb i (b .size)) ∷ (5 unless ltb (b .size) (width b)) ∷ []
 changeRules (remove i) b = (4 unless ltb i (b .size)) ∷ []
 changeRules (removeToBack i) b = (4 unless ltb i (b .size)) ∷ []
 changeRules (removeSlot s) b = (6 unless ltb (placeInUse s b) (b .size)) ∷ []
@@ -55,18 +58,20 @@ after fromValue b = b
 after (setSize n) b = resized n b
 after (swapFreeSlots i j) b = exchanged i j b
 after (insertFromBack i) b = insertedFromBack i b
+after (insertFirstFree i) b = insertedFirstFree i b
 after (remove i) b = removed i b
 after (removeToBack i) b = removedToBack i b
 after (removeSlot s) b = removed (placeInUse s b) b
 after (exchange i j) b = exchanged i j b
 after (rotate i j) b = rotated i j b
 
--- what an accepted change tells beside the bank: an insertion the slot that it hands out, the one at the back
+-- what an accepted change tells beside the bank: an insertion from the back the slot that it hands out, the one there
 abbrev pub handedOut : Change → Bank → List ℕ
 handedOut fromValue b = []
 handedOut (setSize n) b = []
 handedOut (swapFreeSlots i j) b = []
 handedOut (insertFromBack i) b = slotAt (width b - 1) b ∷ []
+handedOut (insertFirstFree i) b = []
 handedOut (remove i) b = []
 handedOut (removeToBack i) b = []
 handedOut (removeSlot s) b = []

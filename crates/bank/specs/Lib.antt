@@ -2,3 +2,4 @@ pub mod Lists
 pub mod Bank
 pub mod Calls
 pub mod History
+pub mod Holder

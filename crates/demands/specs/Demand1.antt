@@ -18,6 +18,7 @@ use Rattle.refusal.specs.Exactly.{listedAbove, AsRuled, AsListed}
 use Rattle.refusal.proofs.Exactly.{as-ruled, as-listed}
 use Rattle.bank.specs.Bank.{sorted}
 use Rattle.bank.specs.Calls.{Change, Question, changeRules, after, handedOut, questionRules, told}
+use Rattle.bank.specs.Holder.{changedIn, askedIn}
 use Rattle.bank.proofs.Rules.{changes-listed, questions-listed}
 use Rattle.nibbles.specs.Words.{bankOf, wordOf, goodWidth, validWord}
 use Rattle.permuter.specs.Words.{wordRules, changed, asked, madeSorted, madeEmpty}
@@ -45,18 +46,18 @@ use Rattle.card_said.proofs.Ruled as card
 
 -- ---- slot words
 
--- Calls that hand a word back (from_value, set_size, swap_free_slots, insert_from_back, remove, remove_to_back, remove_slot, exchange,
--- rotate): 1 for the width, 2 for the word, then what the call needs (`changeRules`: 4, 5 and 6).
+-- Calls that hand a word back (from_value, set_size, swap_free_slots, insert_from_back, insert_first_free, remove, remove_to_back,
+-- remove_slot, exchange, rotate): 1 for the width, 2 for the word, then what the call needs (`changeRules`: 4, 5 and 6).
 pub word-changes : (w word : ℕ) (c : Change)
     → AsRuled (wordRules w word (changeRules c (bankOf w word))) (wordOf (after c (bankOf w word)) ∷ handedOut c (bankOf w word))
     (word ∷ []) (changed w word c)
-unfolding changed listedAbove
+unfolding changedIn listedAbove
 word-changes w word c = as-ruled (changes-listed c (bankOf w word))
 
 -- Calls that tell a number of a word (size, get, back, back_at_offset): 1, 2, then 4 (`questionRules`).
 pub word-questions : (w word : ℕ) (q : Question)
     → AsRuled (wordRules w word (questionRules q (bankOf w word))) (told q (bankOf w word) ∷ []) (word ∷ []) (asked w word q)
-unfolding asked listedAbove
+unfolding askedIn listedAbove
 word-questions w word q = as-ruled (questions-listed q (bankOf w word))
 
 -- Words made anew have none to hand back: 1, and `make_sorted` 4.

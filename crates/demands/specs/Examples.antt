@@ -1,11 +1,13 @@
--- The examples of document 01 that are marked P: one table, and one claim about the definitions that the contracts cite.
+-- The examples of document 01 that are marked P: one table, and one claim about the definitions that the contracts cite; and one of a
+-- call that came later.
 use mathlib.Core.Path.{_≡_, refl}
 use mathlib.Core.List.{List, [], _∷_, map}
 use Prim.Native.Nat.{ℕ}
 use Rattle.refusal.specs.Answer.{Answer, accepted}
 use Rattle.bank.specs.Lists.{turned, count, eachOnce, listed}
 use Rattle.bank.specs.Bank.{valid, sorted}
-use Rattle.bank.specs.Calls.{insertFromBack, remove, removeToBack, rotate}
+use Rattle.bank.specs.Calls.{insertFromBack, insertFirstFree, remove, removeToBack, rotate}
+use Rattle.bank.specs.Holder.{changedIn}
 use Rattle.order.specs.Bytes.{bytewise}
 use Rattle.order.specs.Layer.{bigEndian, ikeyAt}
 use Rattle.ikey.specs.Said.{compareKeysSaid}
@@ -66,6 +68,11 @@ table =
 
 -- each answer is the one that document 01 gives
 pub as-document-01-says : map (λ (e : Example). e .ours) table ≡ map (λ (e : Example). e .theirs) table
-unfolding turned count eachOnce listed valid sorted pack nibbles changed madeSorted madeEmpty validWord bytewise bigEndian ikeyAt
+unfolding turned count eachOnce listed valid sorted pack nibbles changedIn madeSorted madeEmpty validWord bytewise bigEndian ikeyAt
     compareKeysSaid numbersAt newSaid rising first good findSaid
 as-document-01-says = refl
+
+-- What P4 removed goes back to where it was: insert_first_free(0) gives P3's word.
+pub p4-taken-back : changed 15 0x23456789ABCDE101 (insertFirstFree 0) ≡ accepted (0x23456789ABCDE012 ∷ [])
+unfolding turned count eachOnce valid pack nibbles changedIn validWord
+p4-taken-back = refl

@@ -1,7 +1,7 @@
 // Slot words for C: each call of the library `permuter`, by number.
 ghost use mathlib.Core.List.{[], _∷_};
-ghost use Rattle.bank.specs.Calls.{fromValue, setSize, swapFreeSlots, insertFromBack, remove, removeToBack, removeSlot};
-ghost use Rattle.bank.specs.Calls.{exchange, rotate, size, get, back, backAtOffset};
+ghost use Rattle.bank.specs.Calls.{fromValue, setSize, swapFreeSlots, insertFromBack, insertFirstFree, remove};
+ghost use Rattle.bank.specs.Calls.{removeToBack, removeSlot, exchange, rotate, size, get, back, backAtOffset};
 ghost use Rattle.permuter.specs.Words.{changed, asked, madeSorted, madeEmpty};
 ghost use Rattle.crossing.specs.Crossing.{Crossed};
 use crossing::give_changed;
@@ -106,6 +106,15 @@ pub extern "C" fn cherchivola_insert_from_back(
         (now (word .entry) ∷ now (slot .entry) ∷ []) (now (word .exit) ∷ now (slot .exit) ∷ []) ⌝ }
 {
     give_inserted(permuter::insert_from_back(*word, width, i), word, slot)
+}
+
+// The first free slot, which is the one removed last, is put to use at position i.
+#[no_mangle]
+pub extern "C" fn cherchivola_insert_first_free(word: &mut u64, width: usize, i: usize) -> u64
+    ensures { λ r. ⌜ Crossed (changed width (now (word .entry)) (insertFirstFree i)) r
+        (now (word .entry) ∷ []) (now (word .exit) ∷ []) ⌝ }
+{
+    give_changed(permuter::insert_first_free(*word, width, i), word)
 }
 
 // The slot at position i rests behind every other free one.

@@ -11,6 +11,7 @@ use borrow.Author.Tests.{leb-true, ltb-true, le-leb, lt-ltb}
 use Rattle.refusal.specs.Answer.{Answer, accepted}
 use Rattle.bank.specs.Bank.{Bank, width, slotAt, insertedFromBack, removed, sorted}
 use Rattle.bank.specs.Calls.{insertFromBack, remove}
+use Rattle.bank.specs.Holder.{changedIn}
 use Rattle.bank.proofs.Moves.{length-turned, once-turned}
 use Rattle.bank.proofs.Sorted.{sorted-size, sorted-width, sorted-once}
 use Rattle.nibbles.specs.Words.{wordOf, validWord}
@@ -60,7 +61,7 @@ module _ (word i : ℕ) where
   -- a leaf with room accepts it
   pub put-accepted : validWord 15 word ≡ true → i ≤ word % 16 → word % 16 < 15
       → changed 15 word (insertFromBack i) ≡ accepted (wordOf (insertedFromBack i (slotsOf word)) ∷ back ∷ [])
-  unfolding changed
+  unfolding changedIn
   put-accepted v l h = rw (v, le-leb i (word % 16) l, lt-ltb (word % 16) (width (slotsOf word)) (omega (arith, wide word)))
 
   record Put (next slot : ℕ) : Type 0 where
@@ -71,7 +72,7 @@ module _ (word i : ℕ) where
     pub next-slot : slot ≡ back
 
   put-told : (next slot : ℕ) → changed 15 word (insertFromBack i) ≡ accepted (next ∷ slot ∷ []) → Put next slot
-  unfolding changed
+  unfolding changedIn
   put-told next slot =
       by (validWord 15 word) refl (leb i (word % 16)) (leb-true i (word % 16)) (ltb (word % 16) (width (slotsOf word))) (ltb-true (word % 16) (width (slotsOf word)))
     where
@@ -114,7 +115,7 @@ module _ (word i : ℕ) where
 
 module _ (word i : ℕ) where
   pub take-accepted : validWord 15 word ≡ true → i < word % 16 → changed 15 word (remove i) ≡ accepted (wordOf (removed i (slotsOf word)) ∷ [])
-  unfolding changed
+  unfolding changedIn
   take-accepted v l = rw (v, lt-ltb i (word % 16) l)
 
   record Taken (next : ℕ) : Type 0 where
@@ -123,7 +124,7 @@ module _ (word i : ℕ) where
     pub next-word : next ≡ wordOf (removed i (slotsOf word))
 
   take-told : (next : ℕ) → changed 15 word (remove i) ≡ accepted (next ∷ []) → Taken next
-  unfolding changed
+  unfolding changedIn
   take-told next = by (validWord 15 word) refl (ltb i (word % 16)) (ltb-true i (word % 16))
     where
       by : (p : Bool) → validWord 15 word ≡ p → (q : Bool) → (q ≡ true → i < word % 16)

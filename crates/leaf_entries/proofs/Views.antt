@@ -12,6 +12,7 @@ use Rattle.refusal.specs.declared.Refusal.{Refusal}
 use Rattle.refusal.proofs.Laws.{number-pos}
 use Rattle.bank.specs.Bank.{Bank, width, slotAt}
 use Rattle.bank.specs.Calls.{fromValue}
+use Rattle.bank.specs.Holder.{changedIn}
 use Rattle.bank.proofs.Counts.{slot-lt}
 use Rattle.slot_answers.specs.declared.Changed.{Changed}
 use Rattle.slot_answers.specs.declared.Changed.the-variants as C
@@ -44,7 +45,7 @@ module _ (b : Bank) (entries : List Entry) (h : b .size ≤ width b) where
 -- the judgement of the word
 module _ (word : ℕ) {r : Changed} (e : saidChanged r ≡ changed 15 word fromValue) where
   pub valid-yes : {x : ℕ} → r ≡ C.Word x → true ≡ validWord 15 word
-  unfolding changed
+  unfolding changedIn
   valid-yes {x} q = by (validWord 15 word) (sym (ap saidChanged q) ∙ e)
     where
       by : (p : Bool) → accepted (x ∷ []) ≡ cond p (accepted (wordOf (bankOf 15 word) ∷ [])) (record { number = 2; values = word ∷ [] }) → true ≡ p
@@ -52,7 +53,7 @@ module _ (word : ℕ) {r : Changed} (e : saidChanged r ≡ changed 15 word fromV
       by false d = absurd (let z : _≡_ {A = ℕ} 0 2 = ap (λ (a : Answer). a .number) d in omega arith)
 
   pub valid-no : {why : Refusal} {x : ℕ} → r ≡ C.Refused why x → false ≡ validWord 15 word
-  unfolding changed
+  unfolding changedIn
   valid-no {why} {x} q = by (validWord 15 word) (sym (ap saidChanged q) ∙ e)
     where
       by : (p : Bool) → refused why (x ∷ []) ≡ cond p (accepted (wordOf (bankOf 15 word) ∷ [])) (record { number = 2; values = word ∷ [] }) → false ≡ p

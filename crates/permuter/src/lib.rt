@@ -17,6 +17,7 @@ pub use slots_insert::insert_from_back;
 pub use slots_made::empty;
 pub use slots_made::from_value;
 pub use slots_made::make_sorted;
+pub use slots_remove::insert_first_free;
 pub use slots_remove::remove;
 pub use slots_remove::remove_slot;
 pub use slots_remove::remove_to_back;

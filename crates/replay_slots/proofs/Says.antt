@@ -80,6 +80,6 @@ others-beyond (suc n) call h =
     omega arith
 
 -- a code past the last call asks nothing
-pub asks-nothing : (call w word a b : ℕ) → 15 ≤ call → three 16 0 0 ≡ saidOf (called call w word a b)
+pub asks-nothing : (call w word a b : ℕ) → 16 ≤ call → three 16 0 0 ≡ saidOf (called call w word a b)
 unfolding called saidOf
 asks-nothing call w word a b h = rw (List·getD-eq-default (answers w word a b) noCall {n = call} h) refl

@@ -8,6 +8,7 @@ use Rattle.bank.specs.Calls.{
   setSize,
   swapFreeSlots,
   insertFromBack,
+  insertFirstFree,
   remove,
   removeToBack,
   removeSlot,
@@ -47,6 +48,7 @@ answers w word a b =
     changed w word (removeSlot a) ∷
     changed w word (exchange a b) ∷
     changed w word (rotate a b) ∷
+    changed w word (insertFirstFree a) ∷
     []
 
 -- the answer of the call with this code

@@ -107,6 +107,7 @@ pub fn ask(call: u64, width: usize, word: u64, a: usize, b: usize) -> Said
         12 => of_changed(permuter::remove_slot(word, width, a)),
         13 => of_changed(permuter::exchange(word, width, a, b)),
         14 => of_changed(permuter::rotate(word, width, a, b)),
+        15 => of_changed(permuter::insert_first_free(word, width, a)),
         _ => Said {
             number: 16,
             first: 0,

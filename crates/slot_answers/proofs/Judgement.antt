@@ -63,6 +63,12 @@ module _ (w word : ℕ) {v : Verdict} (e : v ≡ judged w word) where
   unfolding judged
   fine-tests f = passed (goodWidth w) (validWord w word) (sym e ∙ f)
 
+  pub width-good : v ≡ Fine → goodWidth w ≡ true
+  width-good f = fine-tests f .0
+
+  pub word-valid : v ≡ Fine → validWord w word ≡ true
+  word-valid f = fine-tests f .1
+
   pub good : v ≡ Fine → Good w word
   good f = good-valid w word (fine-tests f .0) (fine-tests f .1)
 

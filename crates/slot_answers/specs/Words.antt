@@ -7,28 +7,25 @@ use Rattle.refusal.specs.declared.Refusal.{Refusal}
 use Rattle.refusal.specs.Refusals.{numberOf}
 use Rattle.refusal.specs.Answer.{Answer, Rule, _unless_, answered}
 use Rattle.bank.specs.Bank.{sorted}
-use Rattle.bank.specs.Calls.{Change, Question, changeRules, after, handedOut, questionRules, told}
-use Rattle.nibbles.specs.Words.{bankOf, wordOf, goodWidth, validWord}
+use Rattle.bank.specs.Calls.{Change, Question}
+use Rattle.bank.specs.Holder.{heldRules, changedIn, askedIn}
+use Rattle.nibbles.specs.Words.{wordOf, goodWidth, words}
 
 -- what every call on a word needs, and then what this one needs, by rising number
 abbrev pub wordRules : ℕ → ℕ → List Rule → List Rule
-wordRules w word rules = (1 unless goodWidth w) ∷ (2 unless validWord w word) ∷ rules
+wordRules w word rules = heldRules (words w) word rules
 
 -- a call that breaks a rule of its own: 1 or 2, where the width or the word is wrong, and else the number of that rule
 abbrev pub refusedBy : ℕ → ℕ → Refusal → Answer
 refusedBy w word own = answered (wordRules w word ((numberOf own unless false) ∷ [])) [] (word ∷ [])
 
 -- a call that hands a word back: the new word and what it tells beside it; refused, the word as given
-unfoldable pub changed : ℕ → ℕ → Change → Answer
-changed w word c =
-    answered (wordRules w word (changeRules c (bankOf w word)))
-    (wordOf (after c (bankOf w word)) ∷ handedOut c (bankOf w word))
-    (word ∷ [])
+abbrev pub changed : ℕ → ℕ → Change → Answer
+changed w word c = changedIn (words w) word c
 
 -- a call that tells a number of a word; refused, the word as given
-unfoldable pub asked : ℕ → ℕ → Question → Answer
-asked w word q =
-    answered (wordRules w word (questionRules q (bankOf w word))) (told q (bankOf w word) ∷ []) (word ∷ [])
+abbrev pub asked : ℕ → ℕ → Question → Answer
+asked w word q = askedIn (words w) word q
 
 -- the sorted word with n slots taken; there is no word to hand back
 unfoldable pub madeSorted : ℕ → ℕ → Answer

@@ -1,7 +1,7 @@
-// Removal from a slot word. The width goes beside the word, which goes in by value and comes back in the answer. Every call judges its
-// width and its word, and refuses by number.
+// Removal from a slot word, and its opposite. The width goes beside the word, which goes in by value and comes back in the answer. Every
+// call judges its width and its word, and refuses by number.
 ghost use mathlib.Core.Path.{_≡_};
-ghost use Rattle.bank.specs.Calls.{remove, removeToBack, removeSlot};
+ghost use Rattle.bank.specs.Calls.{insertFirstFree, remove, removeToBack, removeSlot};
 ghost use Rattle.slot_answers.specs.Words.{changed};
 ghost use Rattle.slot_answers.specs.Answers.{saidChanged};
 use nibbles::inside::Verdict;
@@ -60,4 +60,27 @@ pub fn remove_slot(word: u64, width: usize, slot: usize) -> Changed
         };
     }
     Changed::Word(inside::moved(word, width, at, at + 1, size, size - 1))
+}
+
+// The first free slot, which is the one removed last, is put to use at position i: the opposite of a removal there.
+pub fn insert_first_free(word: u64, width: usize, i: usize) -> Changed
+    ensures { λ r. ⌜ saidChanged r ≡ changed width word (insertFirstFree i) ⌝ }
+{
+    if let Verdict::No(why) = judge(word, width) {
+        return Changed::Refused { why, word };
+    }
+    let size = inside::size_of(word);
+    if size < i {
+        return Changed::Refused {
+            why: Refusal::Position,
+            word,
+        };
+    }
+    if width <= size {
+        return Changed::Refused {
+            why: Refusal::Full,
+            word,
+        };
+    }
+    Changed::Word(inside::moved(word, width, i, size, size + 1, size + 1))
 }

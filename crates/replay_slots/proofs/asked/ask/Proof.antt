@@ -6,10 +6,10 @@ use Rattle.replay_slots.proofs.asked.ask.Statement.{statement}
 use Rattle.replay_slots.proofs.asked.ask.Tie as tie
 
 -- a code that no arm has is past them all
-no-arm : tie.Need-returns-16
+no-arm : tie.Need-returns-17
 no-arm c =
     let a = c .before .args in
-    asks-nothing (a .call) (a .width) (a .word) (a .a) (a .b) (others-beyond 15 (a .call) (c .match .rest))
+    asks-nothing (a .call) (a .width) (a .word) (a .a) (a .b) (others-beyond 16 (a .call) (c .match .rest))
 
 pub ask-spec : {M : Type 1} → statement M
 unfolding called
@@ -46,6 +46,9 @@ ask-spec =
     (λ c κs. search needs)
     (λ c κs. search needs)
     (λ c κs. search needs)
+    (λ c κs. search needs)
+    (λ c κs. search needs)
+    (λ c. search asks)
     (λ c. search asks)
     (λ c. search asks)
     (λ c. search asks)
