@@ -187,7 +187,8 @@ module _ {Held : Type 0} (h : Holder Held) (w : ℕ) (Whole : Held → Type 0) (
         by : (q : Bool) → allHold (changeRules c b) ≡ q → heldDoes h c (h .heldOf b) ≡ as-held (cond q (did c b) (nothing b))
         by true e =
             does-so c (h .heldOf b) (rules ∙ e)
-            (subst (λ (x : Bank). Whole (h .heldOf (after c x))) (sym (p .unpacked)) (encodes .packed good (after c b) (fits-after w b f c e) .whole))
+            (subst (λ (x : Bank). Whole (h .heldOf (after c x))) (sym (p .unpacked))
+            (encodes .packed good (after c b) (fits-after w b f c e) .whole))
             ∙ ap (λ (x : Bank). as-held (did c x)) (p .unpacked)
         by false e = does-not c (h .heldOf b) (p .whole) (rules ∙ e)
 
@@ -276,7 +277,8 @@ module _ {Held : Type 0} (h : Holder Held) (w : ℕ) (Whole : Held → Type 0) (
         (λ bad. rw (nothing-ran held whole bad steps))
 
     -- an accepted call, taken back by its opposite: that is accepted, and gives what was held before
-    pub withdrawal : (c : Call) (next : Held) (told : List ℕ) → Whole next → changedIn h held (asChange c) ≡ accepted (h .values next ++ told)
+    pub withdrawal : (c : Call) (next : Held) (told : List ℕ) → Whole next
+        → changedIn h held (asChange c) ≡ accepted (h .values next ++ told)
         → changedIn h next (opposite c (h .bankOf held)) ≡ accepted (h .values held)
     withdrawal c next told t e = by (h .goodWidth) (h .valid held) (allHold (changeRules (asChange c) b)) refl refl refl
       where

@@ -153,7 +153,8 @@ module _ {Held : Type 0} (h : Holder Held) (held : Held) (good : h .goodWidth �
     alone c t e d v = ap accepted (v ∙ sym (append-nil (h .values next))) ∙ so c e d (sym t)
 
     module _ {w : ℕ} (wide : width b ≡ w) where
-      pub resize-so : (n : ℕ) → n ≤ w → next ≡ h .heldOf (resized n b) → given ≡ h .values next → accepted given ≡ changedIn h held (setSize n)
+      pub resize-so : (n : ℕ) → n ≤ w → next ≡ h .heldOf (resized n b) → given ≡ h .values next
+          → accepted given ≡ changedIn h held (setSize n)
       unfolding allHold
       resize-so n l d v = alone (setSize n) refl (rw (wide, le-leb n w l)) d v
 

@@ -58,7 +58,8 @@ pub kth : (w n start : ℕ) → madeSorted w n ≡ accepted (start ∷ []) → (
     → (k < length (up n (w - n) ++ ran (wordDoes w) steps start .released))
     × (getD (ran (wordDoes w) steps start .handed) k 0 ≡ getD (up n (w - n) ++ ran (wordDoes w) steps start .released) k 0)
 kth w n start e steps =
-    holders.of-prefix (ran (wordDoes w) steps start .handed) (up n (w - n) ++ ran (wordDoes w) steps start .released) (in-order w n start e steps)
+    holders.of-prefix (ran (wordDoes w) steps start .handed) (up n (w - n) ++ ran (wordDoes w) steps start .released)
+    (in-order w n start e steps)
 
 -- the empty word is the sorted one with none taken
 empty-sorted : (w start : ℕ) → madeEmpty w ≡ accepted (start ∷ []) → madeSorted w 0 ≡ accepted (start ∷ [])
