@@ -95,9 +95,9 @@ uint64_t cherchivola_rotate(uint64_t *word, size_t width, size_t i, size_t j);
 uint64_t cherchivola_insert_from_back(uint64_t *word, size_t width, size_t i, size_t *slot);
 
 /*
- * The first free slot, the one that was removed last, is put to use at position i: what was removed at i goes back. So a burst is withdrawn,
- * last call first: insert_from_back at i by remove_to_back at i, remove at i by insert_first_free at i, and remove_slot by insert_first_free
- * at the position that the slot had. Refused: 1, 2, 4, 5; then *word is as it was.
+ * The first free slot, the one that was removed last, is put to use at position i: what was removed at i goes back. So a burst is
+ * withdrawn, last call first: insert_from_back at i by remove_to_back at i, remove at i by insert_first_free at i, and remove_slot by
+ * insert_first_free at the position that the slot had. Refused: 1, 2, 4, 5; then *word is as it was.
  */
 uint64_t cherchivola_insert_first_free(uint64_t *word, size_t width, size_t i);
 
