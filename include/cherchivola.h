@@ -61,9 +61,10 @@ enum {
 };
 
 /*
- * Slot words. The lowest four bits are the size, the next four the slot at position 0, and so on up to position width-1;
- * the bits above are 0. The first `size` positions are in use, the others are free, and each slot from 0 to width-1 stands
- * at one position. The free slot at position width-1 goes out next.
+ * Slot words. The lowest four bits are the size, the next four the slot at position 0, and so on up to position width-1. What stands above
+ * in a word from outside is not looked at; what a call leaves has zeros there, and a refused word stays as it was given. The first `size`
+ * positions are in use, the others are free, and each slot from 0 to width-1 stands at one position. The free slot at position width-1
+ * goes out next.
  *
  * Stack: under 150 bytes.
  */
@@ -72,7 +73,8 @@ enum {
 uint64_t cherchivola_empty(size_t width, uint64_t *word);                 /* no slot in use; slot 0 goes out first */
 uint64_t cherchivola_make_sorted(size_t width, size_t n, uint64_t *word); /* slots 0 to n-1 in use, in order */
 
-/* A value from outside, written to *word where it is a valid word. Refused: 1, 2; then *word is as it was. */
+/* A value from outside, written to *word without its bits above position width-1 where that is a valid word. Refused: 1, 2; then *word is
+ * as it was. */
 uint64_t cherchivola_from_value(uint64_t value, size_t width, uint64_t *word);
 
 /* Questions: the answer is written to *told. Refused: 1, 2, and 4 for a place out of range; then *told is as it was. */

@@ -21,6 +21,7 @@ pub enum Name {
     InsertFromBackImmutable,
 }
 
+use crate::words::Random;
 use Name::*;
 
 /// All calls, in the order of their code in the recorded list; the last is not recorded.
@@ -93,5 +94,16 @@ pub fn refused(call: &Call, number: u64) -> Answer {
         number,
         first,
         second: 0,
+    }
+}
+
+/// A call on this word, any that takes one, with arguments of which most are in range.
+pub fn some_call(random: &mut Random, width: usize, word: u64) -> Call {
+    Call {
+        name: NAMES[2 + random.below(NAMES.len() - 3)],
+        width,
+        word,
+        a: random.below(width + 1),
+        b: random.below(width + 1),
     }
 }

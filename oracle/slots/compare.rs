@@ -1,7 +1,7 @@
 //! Both sides on the same calls: each valid word of small widths, words at random of the others, arguments in range and
 //! far out of it.
 
-use crate::calls::{arguments, takes_word, Answer, Call, Name, NAMES};
+use crate::calls::{arguments, some_call, takes_word, Answer, Call, Name, NAMES};
 use crate::words::{every_word, Random};
 use crate::{original, port};
 
@@ -9,6 +9,8 @@ use crate::{original, port};
 const EXHAUSTIVE: usize = 6;
 /// So many words of each larger width.
 const AT_RANDOM: usize = 30_000;
+/// So many calls, at each width below 15, on words that the Rust itself left.
+const ON_ITS_OWN: usize = 100_000;
 /// Arguments far out of range, where a sum or a shift could overflow.
 const FAR: [usize; 8] = [15, 16, 17, 64, 1 << 32, 1 << 60, usize::MAX - 1, usize::MAX];
 
@@ -103,6 +105,20 @@ impl Comparison {
                 every_word(width, &mut |word| self.compare_all(width, word, &values));
             } else {
                 self.run_at_random(width, &values);
+            }
+            self.run_on_its_own(width);
+        }
+    }
+
+    /// The Rust goes on with its own words, stray nibbles and all, and the port is given the same. At width 15 nothing strays.
+    fn run_on_its_own(&mut self, width: usize) {
+        let mut random = Random(200 + width as u64);
+        let mut word = random.word(width, width / 2);
+        for _ in 0..ON_ITS_OWN {
+            let call = some_call(&mut random, width, word);
+            self.compare(call);
+            if port::answer(&call).number == 0 {
+                word = original::word_after(&call);
             }
         }
     }

@@ -1,9 +1,9 @@
-//! Refusals 1 and 2, of which the Rust knows nothing: the port against document 01's rule for a valid word, in both
-//! directions, and that they go before every other refusal.
+//! Refusals 1 and 2, of which the Rust knows nothing: the port against document 01's rule for a valid word, once what strays above the
+//! width is cleared, in both directions, and that they go before every other refusal.
 
 use crate::calls::{takes_word, Call, Name, NAMES};
 use crate::port;
-use crate::words::{is_valid, Random};
+use crate::words::{cleared, is_valid, Random};
 
 /// Up to this width every number with two bits more than a word has is judged.
 const EXHAUSTIVE: usize = 4;
@@ -30,7 +30,7 @@ impl Judgement {
         };
         let ours = port::answer(&call).number;
         let theirs = match width {
-            1..=15 if !takes_word(name) || is_valid(word, width) => 0,
+            1..=15 if !takes_word(name) || is_valid(cleared(word, width), width) => 0,
             1..=15 => 2,
             _ => 1,
         };

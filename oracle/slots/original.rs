@@ -2,6 +2,7 @@
 
 use crate::calls::{accepted, is_question, Answer, Call, Name};
 use crate::permuter::Permuter;
+use crate::words::cleared;
 use std::cell::RefCell;
 use std::panic::{catch_unwind, set_hook, AssertUnwindSafe};
 
@@ -33,6 +34,14 @@ pub fn whole_value(call: &Call) -> u64 {
     at_width(call).first
 }
 
+/// The word that the Rust goes on with, strays and all: the one that a call leaves, or the one as given where it panics or only asks.
+pub fn word_after(call: &Call) -> u64 {
+    if is_question(call.name) {
+        return call.word;
+    }
+    catch_unwind(AssertUnwindSafe(|| at_width(call).first)).unwrap_or(call.word)
+}
+
 /// The refusal that a panic's words stand for.
 pub fn number_of(said: &str) -> u64 {
     if said.contains("permuter full") {
@@ -49,10 +58,7 @@ fn low(call: &Call, whole: Answer) -> Answer {
     if is_question(call.name) {
         return whole;
     }
-    accepted(
-        whole.first & u64::MAX >> (60 - 4 * call.width),
-        whole.second,
-    )
+    accepted(cleared(whole.first, call.width), whole.second)
 }
 
 fn at_width(call: &Call) -> Answer {

@@ -4,9 +4,9 @@
 //! arguments, the first and the second value, all in lower-case hex. Kinds: `v` values of the Rust, `p` a panic of the
 //! Rust, `d` document 01 alone (refusals 1 and 2, of which the Rust knows nothing).
 
-use crate::calls::{arguments, refused, takes_word, Answer, Call, Name, NAMES};
+use crate::calls::{arguments, refused, some_call, takes_word, Answer, Call, Name, NAMES};
 use crate::original;
-use crate::words::{is_valid, pack, size_of, slot_at, Random};
+use crate::words::{cleared, is_valid, pack, size_of, slot_at, Random};
 use std::collections::HashSet;
 use std::fmt::Write;
 
@@ -31,6 +31,9 @@ impl List {
                 list.at_edges(width, random.word(width, size));
                 list.inside(width, random.word(width, size));
             }
+        }
+        for width in 1..=14 {
+            list.on_its_own(width, &mut random);
         }
         list.bad_widths();
         for width in [1, 7, 14, 15] {
@@ -160,6 +163,25 @@ impl List {
         self.ask(Name::BackAtOffset, width, word, (width - size) / 2, 0);
     }
 
+    /// A run of calls on the Rust's own words, stray nibbles and all: each call is put to the word that the one before left.
+    fn on_its_own(&mut self, width: usize, random: &mut Random) {
+        let mut word = random.word(width, width / 2);
+        for _ in 0..48 {
+            let Call { name, a, b, .. } = some_call(random, width, word);
+            let b = if arguments(name) > 1 { b } else { 0 };
+            let a = if arguments(name) > 0 { a } else { 0 };
+            let call = Call {
+                name,
+                width,
+                word,
+                a,
+                b,
+            };
+            self.ask(name, width, word, a, b);
+            word = original::word_after(&call);
+        }
+    }
+
     /// Refusal 1: the width is not 1 to 15.
     fn bad_widths(&mut self) {
         for name in NAMES
@@ -180,19 +202,20 @@ impl List {
         }
     }
 
-    /// Refusal 2: a slot twice, a slot and a size beyond the width, a stray bit above it; whatever the arguments are.
+    /// Refusal 2: a slot twice, a slot and a size beyond the width, and each with stray bits above it, which come back as they were given;
+    /// whatever the arguments are.
     fn bad_words(&mut self, width: usize) {
         let sorted: Vec<usize> = (0..width).collect();
         let good = pack(width / 2, &sorted);
         let mut bad = vec![good | 15, good ^ 1 << 4, good ^ 8 << (4 * width), u64::MAX];
         if width < 15 {
-            bad.extend([good | 1 << (4 * width + 4), good | 1 << 63]);
+            bad.extend([good ^ 1 << 4 | 1 << (4 * width + 4), good | 15 | 1 << 63]);
         }
         if width > 1 {
             bad.push(0);
         }
         for word in bad {
-            if is_valid(word, width) {
+            if is_valid(cleared(word, width), width) {
                 continue;
             }
             for name in NAMES

@@ -28,6 +28,11 @@ pub fn is_valid(word: u64, width: usize) -> bool {
     fits && size <= width && slots.iter().enumerate().all(|(i, &slot)| i == slot)
 }
 
+/// A word from outside without its bits from 4(W+1) up, as it is judged; at width 15 there are none.
+pub fn cleared(word: u64, width: usize) -> u64 {
+    word & u64::MAX >> (60 - 4 * width)
+}
+
 /// Every valid word of a width: each order of the slots with each size.
 pub fn every_word(width: usize, visit: &mut impl FnMut(u64)) {
     let mut slots: Vec<usize> = (0..width).collect();

@@ -8,11 +8,11 @@ import words
 WIDTH, WORD, POSITION, FULL, UNUSED = 1, 2, 4, 5, 6
 
 
-# The refusals of every call on a word: 1, then 2.
+# The refusals of every call on a word: 1, then 2 for a word that is not valid without what strays above the width.
 def judged(word, width):
     if not 1 <= width <= 15:
         return WIDTH
-    return 0 if words.valid(word, width) else WORD
+    return 0 if words.valid(words.cleared(word, width), width) else WORD
 
 
 # A call on a valid word: refused where a rule (number, holds) fails, else answered by `then` of its size and slots.

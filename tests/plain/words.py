@@ -32,6 +32,11 @@ def valid(word, width):
             and sorted(slots_of(word, width)) == list(range(width)))
 
 
+# A word from outside without its bits above the width; at width 15 it has none.
+def cleared(word, width):
+    return word & (1 << 4 * width + 4) - 1
+
+
 # The word of size n whose slots in use are 0, 1 and on; the free ones count down to the back.
 def make_sorted(width, n):
     return packed(n, list(range(n)) + list(range(width - 1, n - 1, -1)))

@@ -2,7 +2,7 @@
 use mathlib.Core.Path.{_≡_, refl, sym, ap, ap₂, _∙_, subst}
 use mathlib.Core.Bool.{Bool, true, false, cond, _&&_}
 use mathlib.Core.List.{List, [], _∷_, _++_, append-nil}
-use Prim.Native.Nat.{ℕ, _-_, _≤_, _<_}
+use Prim.Native.Nat.{ℕ, _<_}
 use native.Mathlib.Omega.{arith}
 use lib.ListN.{length, getD, take, drop, length-take}
 use lib.Seq.{getD-take}
@@ -10,8 +10,7 @@ use lib.Dec.{T}
 use borrow.Author.Tests.{ne-eqb}
 use Rattle.refusal.specs.Answer.{Answer, Rule, accepted, allHold}
 use Rattle.refusal.proofs.Laws.{accepted-if, positive, Refused, refused-if}
-use Rattle.bank.specs.Lists.{up}
-use Rattle.bank.specs.Bank.{Bank, sorted}
+use Rattle.bank.specs.Bank.{Bank}
 use Rattle.bank.specs.Calls.{
   Change,
   fromValue,
@@ -109,23 +108,23 @@ module _ {Held : Type 0} (h : Holder Held) (w : ℕ) (Whole : Held → Type 0) (
   -- ---- one call, by its answer
 
   -- what a bank did, as its holder did it
-  abbrev as-held : Done Bank → Done Held
+  abbrev pub as-held : Done Bank → Done Held
   as-held d = record { now = h .heldOf (d .now); handed = d .handed; released = d .released; opposites = d .opposites }
 
   module _ (c : Change) (held : Held) where
-    abbrev rulesOf : List Rule
+    abbrev pub rulesOf : List Rule
     rulesOf = heldRules h held (changeRules c (h .bankOf held))
 
     abbrev valuesOf : List ℕ
     valuesOf = h .values (h .heldOf (after c (h .bankOf held))) ++ handedOut c (h .bankOf held)
 
     -- which rules are left where the judgement passes
-    own-rules : Fine h held → allHold rulesOf ≡ allHold (changeRules c (h .bankOf held))
+    pub own-rules : Fine h held → allHold rulesOf ≡ allHold (changeRules c (h .bankOf held))
     unfolding allHold
     own-rules f = rw (f .good, f .valid)
 
     -- and where it does not, not all hold
-    not-all : h .goodWidth && h .valid held ≡ false → allHold rulesOf ≡ false
+    pub not-all : h .goodWidth && h .valid held ≡ false → allHold rulesOf ≡ false
     unfolding allHold
     not-all e = by (h .goodWidth) (h .valid held) (allHold (changeRules c (h .bankOf held))) e
       where
@@ -149,7 +148,7 @@ module _ {Held : Type 0} (h : Holder Held) (w : ℕ) (Whole : Held → Type 0) (
         (record { now = next; handed = told; released = released; opposites = opposites })
     same released opposites e d = rw (e, d)
 
-    does-not : Whole held → allHold rulesOf ≡ false → heldDoes h c held ≡ nothing held
+    pub does-not : Whole held → allHold rulesOf ≡ false → heldDoes h c held ≡ nothing held
     unfolding heldDoes
     does-not whole e =
         let r = answers-not e in
@@ -158,7 +157,8 @@ module _ {Held : Type 0} (h : Holder Held) (w : ℕ) (Whole : Held → Type 0) (
         (ap (h .read) (sym (append-nil (h .values held))) ∙ encodes .read-again held [] whole)
         (ap (drop (h .places)) (sym (append-nil (h .values held))) ∙ encodes .rest held [] whole))
 
-    does-so : allHold rulesOf ≡ true → Whole (h .heldOf (after c (h .bankOf held))) → heldDoes h c held ≡ as-held (did c (h .bankOf held))
+    pub does-so : allHold rulesOf ≡ true → Whole (h .heldOf (after c (h .bankOf held)))
+        → heldDoes h c held ≡ as-held (did c (h .bankOf held))
     unfolding heldDoes
     does-so e next =
         rw (answers-if e)
@@ -276,56 +276,66 @@ module _ {Held : Type 0} (h : Holder Held) (w : ℕ) (Whole : Held → Type 0) (
         (λ b f g d. rw (same-ran g steps b f, d) (banks.handed-in-order w steps b f))
         (λ bad. rw (nothing-ran held whole bad steps))
 
-    -- an accepted call, taken back by its opposite: that is accepted, and gives what was held before
+    pub kth : (steps : List Step) (k : ℕ) → k < length (ran (heldDoes h) steps held .handed)
+        → (k < length (free (h .bankOf held) ++ ran (heldDoes h) steps held .released))
+        × (getD (ran (heldDoes h) steps held .handed) k 0 ≡ getD (free (h .bankOf held) ++ ran (heldDoes h) steps held .released) k 0)
+    kth steps =
+        of-prefix (ran (heldDoes h) steps held .handed) (free (h .bankOf held) ++ ran (heldDoes h) steps held .released) (in-order steps)
+
+  -- ---- an accepted call: the judgement passes, its own rules hold, and what is told first holds the bank after it
+
+  module _ (held : Held) (c : Change) where
+    pub record Accepted (next : Held) : Type 0 where
+      pub fine : Fine h held
+      pub rules : allHold (changeRules c (h .bankOf held)) ≡ true
+      pub fits : Fits w (after c (h .bankOf held))
+      pub is-next : next ≡ h .heldOf (after c (h .bankOf held))
+
+    pub accepted-so : (next : Held) (told : List ℕ) → Whole held → Whole next → changedIn h held c ≡ accepted (h .values next ++ told)
+        → Accepted next
+    accepted-so next told whole t e = by (h .goodWidth) (h .valid held) (allHold (changeRules c (h .bankOf held))) refl refl refl
+      where
+        refused : allHold (rulesOf c held) ≡ false → ⊥
+        refused d =
+            let z : 0 < 0 = subst (λ (a : Answer). 0 < a .number) e (answers-not c held d .numbered) in
+            omega arith
+
+        taken : Fine h held → allHold (changeRules c (h .bankOf held)) ≡ true → Accepted next
+        taken f g =
+            let fits = fits-after w (h .bankOf held) (encodes .fits held whole f) c g in
+            let p = encodes .packed (f .good) (after c (h .bankOf held)) fits in
+            record {
+              fine = f;
+              rules = g;
+              fits = fits;
+              is-next = sym (encodes .read-again next told t)
+                  ∙ ap (λ (a : Answer). h .read (a .values)) (sym e ∙ answers-if c held (own-rules c held f ∙ g))
+                  ∙ encodes .read-again (h .heldOf (after c (h .bankOf held))) (handedOut c (h .bankOf held)) (p .whole);
+            }
+
+        by : (p q r : Bool) → h .goodWidth ≡ p → h .valid held ≡ q → allHold (changeRules c (h .bankOf held)) ≡ r → Accepted next
+        by true true true d v g = taken (record { good = d; valid = v }) g
+        by true true false d v g = absurd (refused (own-rules c held (record { good = d; valid = v }) ∙ g))
+        by true false r d v g = absurd (refused (not-all c held (ap₂ _&&_ d v)))
+        by false q r d v g = absurd (refused (not-all c held (ap (λ (x : Bool). x && h .valid held) d)))
+
+  -- taken back by its opposite, which is accepted, it gives what packs the bank of before
+  module _ (held : Held) (whole : Whole held) (before : Held) (own : Fine h held → h .heldOf (h .bankOf held) ≡ before) where
     pub withdrawal : (c : Call) (next : Held) (told : List ℕ) → Whole next
         → changedIn h held (asChange c) ≡ accepted (h .values next ++ told)
-        → changedIn h next (opposite c (h .bankOf held)) ≡ accepted (h .values held)
-    withdrawal c next told t e = by (h .goodWidth) (h .valid held) (allHold (changeRules (asChange c) b)) refl refl refl
+        → changedIn h next (opposite c (h .bankOf held)) ≡ accepted (h .values before)
+    withdrawal c next told t e =
+        let a = accepted-so held (asChange c) next told whole t e in
+        let back = banks.taken-back w b (encodes .fits held whole (a .fine)) c (a .rules) in
+        let p = encodes .packed (a .fine .good) (after (asChange c) b) (a .fits) in
+        let now : h .bankOf next ≡ after (asChange c) b = ap (h .bankOf) (a .is-next) ∙ p .unpacked in
+        let judged : Fine h next = subst (Fine h) (sym (a .is-next)) (fine (a .fine .good) (after (asChange c) b) (a .fits)) in
+        answers-if (opposite c b) next
+        (own-rules (opposite c b) next judged ∙ ap (λ (x : Bank). allHold (changeRules (opposite c b) x)) now ∙ back .accepts)
+        ∙ ap₂ (λ (x : Held) (l : List ℕ). accepted (h .values x ++ l))
+        (ap (λ (x : Bank). h .heldOf (after (opposite c b) x)) now ∙ ap (h .heldOf) (back .again) ∙ own (a .fine))
+        (none-told c b (h .bankOf next))
+        ∙ ap accepted (append-nil (h .values before))
       where
         b : Bank
         b = h .bankOf held
-
-        refused : allHold (rulesOf (asChange c) held) ≡ false → ⊥
-        refused d =
-            let z : 0 < 0 = subst (λ (a : Answer). 0 < a .number) e (answers-not (asChange c) held d .numbered) in
-            omega arith
-
-        taken : Fine h held → allHold (changeRules (asChange c) b) ≡ true → changedIn h next (opposite c b) ≡ accepted (h .values held)
-        taken f g =
-            let fit = encodes .fits held whole f in
-            let back = banks.taken-back w b fit c g in
-            let fits = fits-after w b fit (asChange c) g in
-            let p = encodes .packed (f .good) (after (asChange c) b) fits in
-            let same : next ≡ h .heldOf (after (asChange c) b) = sym (encodes .read-again next told t)
-            ∙ ap (λ (a : Answer). h .read (a .values)) (sym e ∙ answers-if (asChange c) held (own-rules (asChange c) held f ∙ g))
-            ∙ encodes .read-again (h .heldOf (after (asChange c) b)) (handedOut (asChange c) b) (p .whole) in
-            let now : h .bankOf next ≡ after (asChange c) b = ap (h .bankOf) same ∙ p .unpacked in
-            let judged : Fine h next = subst (Fine h) (sym same) (fine (f .good) (after (asChange c) b) fits) in
-            answers-if (opposite c b) next
-            (own-rules (opposite c b) next judged ∙ ap (λ (x : Bank). allHold (changeRules (opposite c b) x)) now ∙ back .accepts)
-            ∙ ap₂ (λ (x : Held) (l : List ℕ). accepted (h .values x ++ l))
-            (ap (λ (x : Bank). h .heldOf (after (opposite c b) x)) now ∙ ap (h .heldOf) (back .again) ∙ own f)
-            (none-told c b (h .bankOf next))
-            ∙ ap accepted (append-nil (h .values held))
-
-        by : (p q r : Bool) → h .goodWidth ≡ p → h .valid held ≡ q → allHold (changeRules (asChange c) b) ≡ r
-            → changedIn h next (opposite c b) ≡ accepted (h .values held)
-        by true true true d v g = taken (record { good = d; valid = v }) g
-        by true true false d v g = absurd (refused (own-rules (asChange c) held (record { good = d; valid = v }) ∙ g))
-        by true false r d v g = absurd (refused (not-all (asChange c) held (ap₂ _&&_ d v)))
-        by false q r d v g = absurd (refused (not-all (asChange c) held (ap (λ (x : Bool). x && h .valid held) d)))
-
-  -- ---- from the sorted bank with n slots taken: n, n+1, .., W-1, and then the released ones
-
-  module _ (n : ℕ) (l : n ≤ w) (p : Packed h w Whole (sorted w n)) where
-    abbrev start : Held
-    start = h .heldOf (sorted w n)
-
-    pub sorted-in-order : (steps : List Step)
-        → ran (heldDoes h) steps start .handed
-        ≡ take (length (ran (heldDoes h) steps start .handed)) (up n (w - n) ++ ran (heldDoes h) steps start .released)
-    sorted-in-order steps =
-        subst (λ (due : List ℕ). ran (heldDoes h) steps start .handed
-        ≡ take (length (ran (heldDoes h) steps start .handed)) (due ++ ran (heldDoes h) steps start .released))
-        (ap free (p .unpacked) ∙ banks.free-sorted w n l)
-        (in-order start (p .whole) (λ e. ap (h .heldOf) (p .unpacked)) steps)

@@ -7,3 +7,7 @@ pub mod History
 pub mod Rules
 pub mod Holder
 pub mod Returns
+pub mod Judged
+pub mod Making
+pub mod Starts
+pub mod Alike

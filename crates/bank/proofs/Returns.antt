@@ -199,10 +199,10 @@ module _ {Held : Type 0} (h : Holder Held) (held : Held) (good : h .goodWidth �
       slot-so slot p l d v =
           alone (removeSlot slot) refl (rw (lt-ltb (placeInUse slot b) (b .size) (omega arith))) (d ∙ rw (s, p)) v
 
-  -- a judgement alone gives back what was given, where that packs its own bank
-  pub value-so : {given : List ℕ} → given ≡ h .values held → held ≡ h .heldOf b → accepted given ≡ changedIn h held fromValue
+  -- a judgement alone gives back what holds the same bank
+  pub value-so : {next : Held} {given : List ℕ} → next ≡ h .heldOf b → given ≡ h .values next → accepted given ≡ changedIn h held fromValue
   unfolding allHold
-  value-so v d = alone fromValue refl refl d v
+  value-so d v = alone fromValue refl refl d v
 
   -- an insertion from the back tells the slot there
   pub insert-so : {w n slot : ℕ} {next : Held} {given : List ℕ} (i : ℕ) → width b ≡ w → n ≡ b .size → i ≤ n → n < w

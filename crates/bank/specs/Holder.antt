@@ -4,9 +4,9 @@ use Prim.Native.Nat.{ℕ}
 use mathlib.Core.Bool.{Bool, true, false}
 use mathlib.Core.List.{List, [], _∷_, _++_}
 use lib.ListN.{drop}
-use lib.Dec.{eqb}
+use lib.Dec.{leb, eqb}
 use Rattle.refusal.specs.Answer.{Answer, Rule, _unless_, answered}
-use Rattle.bank.specs.Bank.{Bank}
+use Rattle.bank.specs.Bank.{Bank, sorted}
 use Rattle.bank.specs.Calls.{Change, Question, changeRules, after, handedOut, questionRules, told}
 use Rattle.bank.specs.History.{Done, releasedBy, oppositesOf}
 
@@ -42,6 +42,16 @@ module _ {Held : Type 0} (h : Holder Held) where
   unfoldable pub askedIn : Held → Question → Answer
   askedIn held q =
       answered (heldRules held (questionRules q (h .bankOf held))) (told q (h .bankOf held) ∷ []) (h .values held)
+
+  -- What holds the sorted bank of width w with n slots taken: 1 for the width, 4 for an n above it. Refused, there is no bank to hand
+  -- back, and something else stands in its place.
+  unfoldable pub madeSortedIn : ℕ → ℕ → List ℕ → Answer
+  madeSortedIn w n missing =
+      answered ((1 unless h .goodWidth) ∷ (4 unless leb n w) ∷ []) (h .values (h .heldOf (sorted w n))) missing
+
+  -- what holds the empty bank of width w, which is the sorted one with no slot taken: 1 alone
+  unfoldable pub madeEmptyIn : ℕ → List ℕ → Answer
+  madeEmptyIn w missing = answered ((1 unless h .goodWidth) ∷ []) (h .values (h .heldOf (sorted w 0))) missing
 
   -- One call of a history, by its answer: what is held now is told first, accepted or refused; what is told behind it is handed out; an
   -- accepted removal releases its slot, and an accepted call has its opposite.

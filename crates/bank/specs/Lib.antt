@@ -3,3 +3,4 @@ pub mod Bank
 pub mod Calls
 pub mod History
 pub mod Holder
+pub mod Judged

@@ -6,22 +6,23 @@
 -- n ≤ W. `AsRuled rules values back answer` says: where no rule applies the answer is accepted with the values; else its number
 -- is the lowest that applies, and what was given comes back, behind the numbers that the refusal tells (`telling`; most tell none).
 -- `KeepsMemory` adds, for calls on lent memory, that a refused call leaves every word and byte as it was.
-use Prim.Native.Nat.{ℕ, _+_, _-_, _*_, _/_, _<_, compare}
-use mathlib.Core.Path.{_≡_, subst, sym}
+use Prim.Native.Nat.{ℕ, _+_, _-_, _*_, _/_, _^_, _<_, compare}
+use mathlib.Core.Path.{_≡_, refl, subst, sym}
 use mathlib.Core.Logic.{_⊎_, _≢_}
 use mathlib.Core.Bool.{not, _&&_}
 use mathlib.Core.List.{List, [], _∷_, _++_}
 use lib.Dec.{leb, ltb, eqb}
 use lib.ListN.{length, getD, drop}
-use Rattle.refusal.specs.Answer.{Rule, _unless_, _telling_}
+use Rattle.refusal.specs.Answer.{Rule, _unless_, _telling_, accepted}
 use Rattle.refusal.specs.Exactly.{listedAbove, AsRuled, AsListed}
 use Rattle.refusal.proofs.Exactly.{as-ruled, as-listed}
 use Rattle.bank.specs.Bank.{sorted}
 use Rattle.bank.specs.Calls.{Change, Question, changeRules, after, handedOut, questionRules, told}
-use Rattle.bank.specs.Holder.{changedIn, askedIn}
+use Rattle.bank.specs.Holder.{changedIn, askedIn, madeSortedIn, madeEmptyIn}
 use Rattle.bank.proofs.Rules.{changes-listed, questions-listed}
-use Rattle.nibbles.specs.Words.{bankOf, wordOf, goodWidth, validWord}
+use Rattle.nibbles.specs.Words.{bankOf, wordOf, goodWidth, validWord, clearedWord}
 use Rattle.permuter.specs.Words.{wordRules, changed, asked, madeSorted, madeEmpty}
+use Rattle.permuter.proofs.History as words
 use Rattle.ikey.specs.Said.{place}
 use Rattle.order.specs.Bytes.{Bytes}
 use Rattle.order.specs.Layer.{classAt}
@@ -46,8 +47,12 @@ use Rattle.card_said.proofs.Ruled as card
 
 -- ---- slot words
 
+-- Request A4 amends document 01 here: a word from outside has its bits from 4(W+1) up cleared first (`clearedWord`) and is judged after, so
+-- that 2 is given exactly where the cleared word is not valid; what a valid word is stays as it was (`validWord`). "Unchanged" is the word
+-- as given, stray bits and all; the bank of a call is in the bits that are left (`bankOf`), and no accepted call leaves a stray bit.
+
 -- Calls that hand a word back (from_value, set_size, swap_free_slots, insert_from_back, insert_first_free, remove, remove_to_back,
--- remove_slot, exchange, rotate): 1 for the width, 2 for the word, then what the call needs (`changeRules`: 4, 5 and 6).
+-- remove_slot, exchange, rotate): 1 for the width, 2 for the cleared word, then what the call needs (`changeRules`: 4, 5 and 6).
 pub word-changes : (w word : ℕ) (c : Change)
     → AsRuled (wordRules w word (changeRules c (bankOf w word))) (wordOf (after c (bankOf w word)) ∷ handedOut c (bankOf w word))
     (word ∷ []) (changed w word c)
@@ -60,15 +65,24 @@ pub word-questions : (w word : ℕ) (q : Question)
 unfolding askedIn listedAbove
 word-questions w word q = as-ruled (questions-listed q (bankOf w word))
 
+-- What an accepted call hands back has no bit from 4(W+1) up.
+pub no-strays : (w word : ℕ) (c : Change) {next : ℕ} (told : List ℕ) → changed w word c ≡ accepted (next ∷ told)
+    → next < 2 ^ (4 * (w + 1))
+no-strays = words.no-strays
+
+-- At width 15 nothing strays: clearing is the identity, so that leaf words, nodes and the index are judged as they were.
+pub none-at-15 : (word : ℕ) → clearedWord 15 word ≡ word
+none-at-15 word = refl
+
 -- Words made anew have none to hand back: 1, and `make_sorted` 4.
 pub sorted-words : (w n : ℕ)
     → AsRuled ((1 unless goodWidth w) ∷ (4 unless leb n w) ∷ []) (wordOf (sorted w n) ∷ []) [] (madeSorted w n)
-unfolding madeSorted listedAbove
+unfolding madeSortedIn listedAbove
 sorted-words w n = as-ruled tt
 
 -- `empty` has 1 alone.
 pub empty-words : (w : ℕ) → AsRuled ((1 unless goodWidth w) ∷ []) (wordOf (sorted w 0) ∷ []) [] (madeEmpty w)
-unfolding madeEmpty listedAbove
+unfolding madeEmptyIn listedAbove
 empty-words w = as-ruled tt
 
 -- ---- keys: in `Demand1Keys.antt`

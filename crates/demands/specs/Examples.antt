@@ -7,7 +7,7 @@ use Rattle.refusal.specs.Answer.{Answer, accepted}
 use Rattle.bank.specs.Lists.{turned, count, eachOnce, listed}
 use Rattle.bank.specs.Bank.{valid, sorted}
 use Rattle.bank.specs.Calls.{insertFromBack, insertFirstFree, remove, removeToBack, rotate}
-use Rattle.bank.specs.Holder.{changedIn}
+use Rattle.bank.specs.Holder.{changedIn, madeSortedIn, madeEmptyIn}
 use Rattle.order.specs.Bytes.{bytewise}
 use Rattle.order.specs.Layer.{bigEndian, ikeyAt}
 use Rattle.ikey.specs.Said.{compareKeysSaid}
@@ -68,7 +68,7 @@ table =
 
 -- each answer is the one that document 01 gives
 pub as-document-01-says : map (λ (e : Example). e .ours) table ≡ map (λ (e : Example). e .theirs) table
-unfolding turned count eachOnce listed valid sorted pack nibbles changedIn madeSorted madeEmpty validWord bytewise bigEndian ikeyAt
+unfolding turned count eachOnce listed valid sorted pack nibbles changedIn madeSortedIn madeEmptyIn validWord bytewise bigEndian ikeyAt
     compareKeysSaid numbersAt newSaid rising first good findSaid
 as-document-01-says = refl
 

@@ -11,7 +11,7 @@ use borrow.Author.Tests.{leb-true, ltb-true, le-leb, lt-ltb}
 use Rattle.refusal.specs.Answer.{Answer, accepted}
 use Rattle.bank.specs.Bank.{Bank, width, slotAt, insertedFromBack, removed, sorted}
 use Rattle.bank.specs.Calls.{insertFromBack, remove}
-use Rattle.bank.specs.Holder.{changedIn}
+use Rattle.bank.specs.Holder.{changedIn, madeSortedIn}
 use Rattle.bank.proofs.Moves.{length-turned, once-turned}
 use Rattle.bank.proofs.Sorted.{sorted-size, sorted-width, sorted-once}
 use Rattle.nibbles.specs.Words.{wordOf, validWord}
@@ -163,7 +163,7 @@ change-view word entries i entry v h l =
 
 module _ (n : ℕ) (h : n ≤ 15) where
   pub sorted-accepted : madeSorted 15 n ≡ accepted (wordOf (sorted 15 n) ∷ [])
-  unfolding madeSorted
+  unfolding madeSortedIn
   sorted-accepted = rw (le-leb n 15 h)
 
   module _ {word : ℕ} (e : madeSorted 15 n ≡ accepted (word ∷ [])) where

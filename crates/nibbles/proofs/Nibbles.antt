@@ -7,7 +7,7 @@ use native.Mathlib.Omega.{arith}
 use lib.ListN.{length, getD, take, drop}
 use lib.Arith.{mod-mul, digits-lt, digits-div, digits-mod}
 use lib.Bits.{bitAnd, bitOr, and-mask, or-shifted}
-use lib.Pow.{pow-add, pow-pos, pow-mono, pow-lt, shr-lt, shl-exact}
+use lib.Pow.{pow-add, pow-pos, pow-mono, pow-lt, shr-lt, shl-exact, mod-pow-add}
 use Rattle.nibbles.specs.Nibbles.{pack, nibbles}
 
 pub pow-step : (k : ℕ) → 2 ^ (4 * suc k) ≡ 2 ^ (4 * k) * 16
@@ -75,6 +75,17 @@ nibbles-pack [] h = refl
 nibbles-pack (d ∷ ds) h =
     let l : d < 16 = h 0 (omega arith) in
     rw (digits-mod (pack ds) l, digits-div (pack ds) l, nibbles-pack ds (λ i m. h (suc i) (omega arith)))
+
+-- what stands above k nibbles is not among them
+pub nibbles-low : (k v : ℕ) → nibbles k (v % 2 ^ (4 * k)) ≡ nibbles k v
+unfolding nibbles
+nibbles-low zero v = refl
+nibbles-low (suc k) v =
+    let m : v % 2 ^ (4 * suc k) ≡ v / 16 % 2 ^ (4 * k) * 16 + v % 16 = ap (λ (n : ℕ). v % 2 ^ n) (mul-suc 4 k)
+    ∙ mod-pow-add v (4 * k) 4 in
+    let head : v % 2 ^ (4 * suc k) % 16 ≡ v % 16 = omega arith in
+    let rest : v % 2 ^ (4 * suc k) / 16 ≡ v / 16 % 2 ^ (4 * k) = omega arith in
+    ap₂ (λ (d : ℕ) (l : List ℕ). d ∷ l) head (ap (nibbles k) rest ∙ nibbles-low k (v / 16))
 
 -- nibbles above others
 pub nibbles-join : (j k above below : ℕ) → below < 2 ^ (4 * j)

@@ -1,3 +1,2 @@
 pub mod Nibbles
 pub mod Words
-pub mod Judged

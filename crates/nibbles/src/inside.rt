@@ -2,21 +2,14 @@
 // `requires`.
 ghost use mathlib.Core.Path.{_≡_};
 ghost use Prim.Native.Nat.{ℕ, _+_, _-_, _*_, _/_, _%_, _^_, _≤_, _<_};
-ghost use lib.Bits.{bitOr};
 ghost use Rattle.bank.specs.Lists.{eachOnce};
 ghost use Rattle.nibbles.specs.Nibbles.{nibbles};
-ghost use Rattle.nibbles.specs.Words.{validWord};
-ghost use Rattle.nibbles.specs.Judged.{judged};
+ghost use Rattle.nibbles.specs.Words.{validWord, clearedWord, judged};
+use bank::Verdict;
 use refusal::Refusal;
 
 // Nibble i is i.
 const RISING: u64 = 0xFEDC_BA98_7654_3210;
-
-// Whether a word may be used at its width.
-pub enum Verdict {
-    Fine,
-    No(Refusal),
-}
 
 // The k lowest nibbles.
 pub fn low(x: u64, k: usize) -> u64
@@ -80,28 +73,26 @@ pub fn each_once(x: u64) -> bool
     0xFFFE_FFFF < (marks | (marks << 16))
 }
 
-// The positions of a word, and from the width on each place with its own number.
+// The positions of a word, and from the width on each place with its own number, whatever strays there: where two numbers differ, bit by
+// bit, a second time gives the first.
 fn filled(word: u64, width: usize) -> u64
     requires { ⌜ width ≤ 15 ⌝ }
-    ensures { λ r. ⌜ r ≡ bitOr (0xFEDCBA9876543210 / 2 ^ (4 * width) * 2 ^ (4 * width)) (word / 16) ⌝ }
+    ensures { λ r. ⌜ r ≡ 0xFEDCBA9876543210 / 2 ^ (4 * width) * 2 ^ (4 * width) + word / 16 % 2 ^ (4 * width) ⌝ }
 {
-    (high(RISING, width) << (4 * width)) | high(word, 1)
+    let slots = high(word, 1);
+    (high(RISING ^ slots, width) << (4 * width)) ^ slots
 }
 
-// Whether a word is valid. The places above the width are filled with their own numbers, so that one test fits every width. What stands
-// above the width, if anything, is looked at last: then nothing is kept for it while the nibbles are marked.
+// Whether a word is valid once its stray bits are cleared. The places above the width are filled with their own numbers, so that one test
+// fits every width and nothing that strays is seen.
 pub fn valid(word: u64, width: usize) -> bool
     requires { ⌜ width ≤ 15 ⌝ }
-    ensures { λ r. ⌜ r ≡ validWord width word ⌝ }
+    ensures { λ r. ⌜ r ≡ validWord width (clearedWord width word) ⌝ }
 {
     if width < size_of(word) {
         return false;
     }
-    let once = each_once(filled(word, width));
-    if 15 < high(word, width) {
-        return false;
-    }
-    once
+    each_once(filled(word, width))
 }
 
 // Whether a word may be used at its width: refusal 1 for the width, 2 for the word.

@@ -1,26 +1,29 @@
 -- A word goes through a history as the bank that it packs does: the argument over any holder, read off for words. Assumes nothing.
-use mathlib.Core.Path.{_≡_, refl, sym, ap₂, _∙_, subst}
+use mathlib.Core.Path.{_≡_, refl, sym, ap, ap₂, _∙_, subst}
 use mathlib.Core.Bool.{true}
-use mathlib.Core.List.{List, [], _∷_}
+use mathlib.Core.List.{List, [], _∷_, _++_}
 use Prim.Native.Nat.{ℕ, zero, suc, _+_, _-_, _*_, _/_, _%_, _^_, _≤_, _<_}
 use native.Mathlib.Nat.{div-eq-of-lt}
 use native.Mathlib.Omega.{arith}
-use lib.ListN.{length, getD}
+use lib.ListN.{length, getD, take}
 use lib.Arith.{digits-mod, digits-div}
 use lib.Dec.{T, leb, leb→le}
 use borrow.Author.Tests.{le-leb, eq-eqb}
 use Rattle.refusal.specs.Answer.{accepted}
 use Rattle.bank.specs.Lists.{eachOnce}
 use Rattle.bank.specs.Bank.{Bank, width, valid, insertedFromBack}
-use Rattle.bank.specs.History.{Call, asChange, Step, withoutBursts, withdrawn, ran}
+use Rattle.bank.specs.Calls.{Change, after}
+use Rattle.bank.specs.History.{Call, asChange, Step, withoutBursts, withdrawn, ran, free}
 use Rattle.bank.proofs.Tests.{is-true, and-left, and-right, holds}
 use Rattle.bank.proofs.Counts.{slot-lt}
 use Rattle.bank.proofs.Moves.{length-turned, once-turned}
 use Rattle.bank.proofs.History.{opposite}
 use Rattle.bank.proofs.Holder as holders
+use Rattle.bank.proofs.Alike as alike
 use Rattle.nibbles.specs.Nibbles.{pack, nibbles}
-use Rattle.nibbles.specs.Words.{bankOf, wordOf, goodWidth, validWord, words}
+use Rattle.nibbles.specs.Words.{bankOf, wordOf, goodWidth, validWord, clearedWord, words}
 use Rattle.nibbles.proofs.Nibbles.{length-nibbles, pack-lt, nibbles-pack}
+use Rattle.nibbles.proofs.Words.{size-cleared, slots-cleared, bank-cleared, cleared-small, cleared-again}
 use Rattle.slot_answers.specs.Words.{changed}
 use Rattle.slot_answers.proofs.Judgement.{Good, good-valid}
 use Rattle.slot_answers.proofs.Calls.{word-again}
@@ -90,14 +93,25 @@ fit-inserted w i b f p q =
 abbrev pub Any : ℕ → Type 0
 Any word = Unit {0}
 
--- a word that passes the judgement
-good-word : (w word : ℕ) → holders.Fine (words w) word → Good w word
-good-word w word f = good-valid w word (f .good) (f .valid)
+-- a word that passes the judgement: the cleared one is valid
+good-word : (w word : ℕ) → holders.Fine (words w) word → Good w (clearedWord w word)
+good-word w word f = good-valid w (clearedWord w word) (f .good) (f .valid)
+
+least : (w : ℕ) → goodWidth w ≡ true → 1 ≤ w
+least w e = leb→le 1 w (and-left (leb 1 w) (leb w 15) (holds e))
+
+most : (w : ℕ) → goodWidth w ≡ true → w ≤ 15
+most w e = leb→le w 15 (and-right (leb 1 w) (leb w 15) (holds e))
 
 module _ (w : ℕ) where
   -- every valid bank of a good width is packed in a valid word
   pub packed : (b : Bank) → Fit w b → holders.Packed (words w) w Any b
-  packed b f = record { whole = tt; valid = valid-packed w b f; unpacked = rw (size-packed w b f, slots-packed w b f) }
+  packed b f =
+      record {
+        whole = tt;
+        valid = ap (validWord w) (cleared-small w (wordOf b) (packed-lt w b f)) ∙ valid-packed w b f;
+        unpacked = rw (size-packed w b f, slots-packed w b f);
+      }
 
   pub encodes : holders.Encodes (words w) w Any
   encodes =
@@ -106,32 +120,73 @@ module _ (w : ℕ) where
         rest = λ word more t. refl;
         fits = λ word t f.
             let g = good-word w word f in
-            record { wide = length-nibbles w (word / 16); sized = g .sized; once = g .once };
+            record {
+              wide = length-nibbles w (word / 16);
+              sized = omega (arith, g .sized, size-cleared w word);
+              once = subst (λ (ps : List ℕ). T (eachOnce ps)) (slots-cleared w word) (g .once);
+            };
         packed = λ good b f.
-            packed b (record { least = least good; most = most good; wide = f .wide; sized = f .sized; once = f .once });
+            packed b (record { least = least w good; most = most w good; wide = f .wide; sized = f .sized; once = f .once });
       }
-    where
-      least : goodWidth w ≡ true → 1 ≤ w
-      least e = leb→le 1 w (and-left (leb 1 w) (leb w 15) (holds e))
 
-      most : goodWidth w ≡ true → w ≤ 15
-      most e = leb→le w 15 (and-right (leb 1 w) (leb w 15) (holds e))
+  -- a word that passes packs its bank once it is cleared
+  again : (word : ℕ) → holders.Fine (words w) word → wordOf (bankOf w word) ≡ clearedWord w word
+  again word f = ap wordOf (sym (bank-cleared w word)) ∙ word-again w (clearedWord w word) (good-word w word f .clear)
 
-  -- a valid word packs its own bank
-  own : (word : ℕ) → holders.Fine (words w) word → wordOf (bankOf w word) ≡ word
-  own word f = word-again w word (good-word w word f .clear)
+  own : (word : ℕ) → holders.Fine (words w) (clearedWord w word) → wordOf (bankOf w (clearedWord w word)) ≡ clearedWord w word
+  own word f = again (clearedWord w word) f ∙ cleared-again w word
 
-  -- ---- demand 3, for any word at any width
+  -- what an accepted call leaves has no stray bits
+  pub no-strays : (word : ℕ) (c : Change) {next : ℕ} (told : List ℕ) → changed w word c ≡ accepted (next ∷ told) → next < 2 ^ (4 * (w + 1))
+  no-strays word c {next} told e =
+      let a = holders.accepted-so (words w) w Any encodes word c next told tt tt e in
+      rw (a .is-next)
+      (packed-lt w (after c (bankOf w word))
+      (record {
+        least = least w (a .fine .good);
+        most = most w (a .fine .good);
+        wide = a .fits .wide;
+        sized = a .fits .sized;
+        once = a .fits .once;
+      }))
+
+  -- ---- demand 3, for any word at any width, once it is cleared
 
   -- an accepted call, withdrawn by its opposite
   pub withdrawal : (word : ℕ) (c : Call) {next : ℕ} (told : List ℕ) → changed w word (asChange c) ≡ accepted (next ∷ told)
-      → changed w next (opposite c (bankOf w word)) ≡ accepted (word ∷ [])
-  withdrawal word c {next} told e = holders.withdrawal (words w) w Any encodes word tt (own word) c next told tt e
+      → changed w next (opposite c (bankOf w word)) ≡ accepted (clearedWord w word ∷ [])
+  withdrawal word c {next} told e =
+      holders.withdrawal (words w) w Any encodes word tt (clearedWord w word) (again word) c next told tt e
 
-  -- a run of calls, withdrawn last first, gives any word back bit for bit
-  pub withdrawn-run : (run : List Call) (word : ℕ) → withdrawn (wordDoes w) run word ≡ word
-  withdrawn-run run word = holders.withdrawn-run (words w) w Any encodes word tt (own word) run
+  -- a run of calls, withdrawn last first, gives any cleared word back bit for bit
+  pub withdrawn-run : (run : List Call) (word : ℕ) → withdrawn (wordDoes w) run (clearedWord w word) ≡ clearedWord w word
+  withdrawn-run run word = holders.withdrawn-run (words w) w Any encodes (clearedWord w word) tt (own word) run
 
   -- and the history goes on as if the run had not been
-  pub as-if-no-burst : (steps : List Step) (word : ℕ) → ran (wordDoes w) steps word ≡ ran (wordDoes w) (withoutBursts steps) word
-  as-if-no-burst steps word = holders.as-if-not (words w) w Any encodes word tt (own word) steps
+  pub as-if-no-burst : (steps : List Step) (word : ℕ)
+      → ran (wordDoes w) steps (clearedWord w word) ≡ ran (wordDoes w) (withoutBursts steps) (clearedWord w word)
+  as-if-no-burst steps word = holders.as-if-not (words w) w Any encodes (clearedWord w word) tt (own word) steps
+
+  -- the free slots of the word go out first, from the back forward, and then the released ones
+  pub in-order : (steps : List Step) (word : ℕ)
+      → ran (wordDoes w) steps (clearedWord w word) .handed
+      ≡ take (length (ran (wordDoes w) steps (clearedWord w word) .handed))
+      (free (bankOf w word) ++ ran (wordDoes w) steps (clearedWord w word) .released)
+  in-order steps word =
+      subst (λ (b : Bank). ran (wordDoes w) steps (clearedWord w word) .handed
+      ≡ take (length (ran (wordDoes w) steps (clearedWord w word) .handed))
+      (free b ++ ran (wordDoes w) steps (clearedWord w word) .released))
+      (bank-cleared w word)
+      (holders.in-order (words w) w Any encodes (clearedWord w word) tt (own word) steps)
+
+  -- a word as given goes through a history as the cleared one does
+  pub as-cleared : (steps : List Step) (word : ℕ)
+      → alike.DoneAlike (words w) w Any encodes (ran (wordDoes w) steps word) (ran (wordDoes w) steps (clearedWord w word))
+  as-cleared steps word =
+      alike.alike-ran (words w) w Any encodes steps word (clearedWord w word)
+      (record {
+        judged = ap (validWord w) (sym (cleared-again w word));
+        bank = sym (bank-cleared w word);
+        first = tt;
+        second = tt;
+      })

@@ -1,73 +1,46 @@
--- The order of the slots handed out, from what `make_sorted` and `empty` answer. Assumes nothing.
-use mathlib.Core.Path.{_≡_, refl, sym, ap}
-use mathlib.Core.Bool.{Bool, true, false, cond, _&&_}
+-- The order of the slots handed out, from what `make_sorted` and `empty` answer, and from any word: the argument over any holder, read
+-- off for words. Assumes nothing.
+use mathlib.Core.Path.{_≡_, sym, _∙_}
 use mathlib.Core.List.{List, [], _∷_, _++_}
-use Prim.Native.Nat.{ℕ, _-_, _≤_, _<_}
-use native.Mathlib.Omega.{arith}
+use Prim.Native.Nat.{ℕ, _-_, _<_}
 use lib.ListN.{length, getD, take}
-use lib.Dec.{leb}
-use borrow.Author.Tests.{leb-true, le-leb}
-use Rattle.refusal.specs.Answer.{Answer, accepted}
+use Rattle.refusal.specs.Answer.{accepted}
 use Rattle.bank.specs.Lists.{up}
-use Rattle.bank.specs.Bank.{sorted}
-use Rattle.bank.specs.History.{Step, ran}
-use Rattle.bank.proofs.Sorted.{sorted-size, sorted-width, sorted-once}
-use Rattle.bank.proofs.Holder as holders
-use Rattle.nibbles.specs.Words.{wordOf, words}
+use Rattle.bank.specs.History.{Step, ran, free}
+use Rattle.bank.proofs.Holder.{of-prefix}
+use Rattle.bank.proofs.Making.{empty-sorted}
+use Rattle.bank.proofs.Starts as starts
+use Rattle.nibbles.specs.Words.{bankOf, clearedWord, words}
 use Rattle.slot_answers.specs.Words.{madeSorted, madeEmpty}
 use Rattle.permuter.specs.History.{wordDoes}
-use Rattle.permuter.proofs.History.{Fit}
 use Rattle.permuter.proofs.History as history
 
--- what an accepted make_sorted says of its arguments and its word
-record Started (w n start : ℕ) : Type 0 where
-  pub least : 1 ≤ w
-  pub most : w ≤ 15
-  pub taken : n ≤ w
-  pub word : start ≡ wordOf (sorted w n)
+-- from any word, once it is cleared
+pub kth-from-any : (w word : ℕ) (steps : List Step) (k : ℕ) → k < length (ran (wordDoes w) steps (clearedWord w word) .handed)
+    → (k < length (free (bankOf w word) ++ ran (wordDoes w) steps (clearedWord w word) .released))
+    × (getD (ran (wordDoes w) steps (clearedWord w word) .handed) k 0
+    ≡ getD (free (bankOf w word) ++ ran (wordDoes w) steps (clearedWord w word) .released) k 0)
+kth-from-any w word steps =
+    of-prefix (ran (wordDoes w) steps (clearedWord w word) .handed)
+    (free (bankOf w word) ++ ran (wordDoes w) steps (clearedWord w word) .released) (history.in-order w steps word)
 
-started : (w n start : ℕ) → madeSorted w n ≡ accepted (start ∷ []) → Started w n start
-unfolding madeSorted
-started w n start = by (leb 1 w) (leb w 15) (leb n w) (leb-true 1 w) (leb-true w 15) (leb-true n w)
-  where
-    by : (p q r : Bool) → (p ≡ true → 1 ≤ w) → (q ≡ true → w ≤ 15) → (r ≡ true → n ≤ w)
-        → cond (p && q) (cond r (accepted (wordOf (sorted w n) ∷ [])) (record { number = 4; values = [] }))
-        (record { number = 1; values = [] }) ≡ accepted (start ∷ [])
-        → Started w n start
-    by true true true f g h e =
-        record { least = f refl; most = g refl; taken = h refl; word = sym (ap (λ (a : Answer). getD (a .values) 0 0) e) }
-    by true true false f g h e = absurd (let z : _≡_ {A = ℕ} 4 0 = ap (λ (a : Answer). a .number) e in omega arith)
-    by true false r f g h e = absurd (let z : _≡_ {A = ℕ} 1 0 = ap (λ (a : Answer). a .number) e in omega arith)
-    by false q r f g h e = absurd (let z : _≡_ {A = ℕ} 1 0 = ap (λ (a : Answer). a .number) e in omega arith)
+module _ (w n start : ℕ) (e : madeSorted w n ≡ accepted (start ∷ [])) where
+  pub free-when-sorted : free (bankOf w start) ≡ up n (w - n)
+  free-when-sorted = starts.made-free (words w) w history.Any (history.encodes w) [] n start tt e
 
-fit-sorted : (w n : ℕ) → 1 ≤ w → w ≤ 15 → n ≤ w → Fit w (sorted w n)
-fit-sorted w n l m h =
-    record { least = l; most = m; wide = sorted-width w n h; sized = rw (sorted-size w n h) h; once = sorted-once w n h }
+  pub in-order : (steps : List Step)
+      → ran (wordDoes w) steps start .handed ≡ take (length (ran (wordDoes w) steps start .handed))
+      (up n (w - n) ++ ran (wordDoes w) steps start .released)
+  in-order = starts.made-in-order (words w) w history.Any (history.encodes w) [] n start tt e
 
-pub in-order : (w n start : ℕ) → madeSorted w n ≡ accepted (start ∷ []) → (steps : List Step)
-    → ran (wordDoes w) steps start .handed ≡ take (length (ran (wordDoes w) steps start .handed))
-    (up n (w - n) ++ ran (wordDoes w) steps start .released)
-in-order w n start e steps =
-    let s = started w n start e in
-    rw (s .word)
-    (holders.sorted-in-order (words w) w history.Any (history.encodes w) n (s .taken)
-    (history.packed w (sorted w n) (fit-sorted w n (s .least) (s .most) (s .taken))) steps)
-
-pub kth : (w n start : ℕ) → madeSorted w n ≡ accepted (start ∷ []) → (steps : List Step) (k : ℕ)
-    → k < length (ran (wordDoes w) steps start .handed)
-    → (k < length (up n (w - n) ++ ran (wordDoes w) steps start .released))
-    × (getD (ran (wordDoes w) steps start .handed) k 0 ≡ getD (up n (w - n) ++ ran (wordDoes w) steps start .released) k 0)
-kth w n start e steps =
-    holders.of-prefix (ran (wordDoes w) steps start .handed) (up n (w - n) ++ ran (wordDoes w) steps start .released)
-    (in-order w n start e steps)
+  pub kth : (steps : List Step) (k : ℕ) → k < length (ran (wordDoes w) steps start .handed)
+      → (k < length (up n (w - n) ++ ran (wordDoes w) steps start .released))
+      × (getD (ran (wordDoes w) steps start .handed) k 0 ≡ getD (up n (w - n) ++ ran (wordDoes w) steps start .released) k 0)
+  kth = starts.made-kth (words w) w history.Any (history.encodes w) [] n start tt e
 
 -- the empty word is the sorted one with none taken
-empty-sorted : (w start : ℕ) → madeEmpty w ≡ accepted (start ∷ []) → madeSorted w 0 ≡ accepted (start ∷ [])
-unfolding madeEmpty madeSorted
-empty-sorted w start e = rw (le-leb 0 w (omega arith)) e
-
 pub kth-from-empty : (w start : ℕ) → madeEmpty w ≡ accepted (start ∷ []) → (steps : List Step) (k : ℕ)
     → k < length (ran (wordDoes w) steps start .handed)
     → (k < length (up 0 (w - 0) ++ ran (wordDoes w) steps start .released))
     × (getD (ran (wordDoes w) steps start .handed) k 0 ≡ getD (up 0 (w - 0) ++ ran (wordDoes w) steps start .released) k 0)
-kth-from-empty w start e = kth w 0 start (empty-sorted w start e)
+kth-from-empty w start e = kth w 0 start (sym (empty-sorted (words w) w []) ∙ e)

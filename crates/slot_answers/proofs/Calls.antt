@@ -12,21 +12,22 @@ use Rattle.refusal.specs.Answer.{accepted, refused, _unless_}
 use Rattle.refusal.specs.Refusals.{numberOf}
 use Rattle.refusal.specs.declared.Refusal.{Refusal}
 use Rattle.refusal.specs.declared.Refusal.the-variants.{Width, Word, Position, Full}
+use Rattle.bank.specs.declared.Verdict.{Verdict}
+use Rattle.bank.specs.declared.Verdict.the-variants.{Fine, No}
 use Rattle.bank.specs.Bank.{width, slotAt, insertedFromBack}
-use Rattle.bank.specs.Calls.{Change, Question, changeRules, questionRules, after, handedOut, told, insertFromBack}
-use Rattle.bank.specs.Holder.{changedIn, askedIn}
+use Rattle.bank.specs.Calls.{insertFromBack}
+use Rattle.bank.specs.Holder.{changedIn}
+use Rattle.bank.specs.Judged.{judgedIn}
+use Rattle.bank.proofs.Judged.{judgement, go-on, refused-held}
 use Rattle.bank.proofs.Returns.{returns, insert-so}
-use Rattle.nibbles.specs.declared.inside.Verdict.{Verdict}
-use Rattle.nibbles.specs.declared.inside.Verdict.the-variants.{Fine, No}
 use Rattle.nibbles.specs.Nibbles.{nibbles}
-use Rattle.nibbles.specs.Words.{bankOf, wordOf, validWord, words}
-use Rattle.nibbles.specs.Judged.{judged}
+use Rattle.nibbles.specs.Words.{bankOf, wordOf, validWord, clearedWord, words, judged}
 use Rattle.nibbles.proofs.Nibbles.{length-nibbles, pack-whole}
-use Rattle.nibbles.proofs.Words.{slot-here}
-use Rattle.slot_answers.specs.Words.{changed, asked, refusedBy}
-use Rattle.slot_answers.proofs.Judgement.{good, go-on, refused-word, width-good, word-valid}
+use Rattle.nibbles.proofs.Words.{slot-here, size-cleared}
+use Rattle.slot_answers.specs.Words.{changed, refusedBy}
+use Rattle.slot_answers.proofs.Judgement.{word-width, word-valid, good}
 
--- a valid word packs its own bank
+-- a word with no stray bits packs its own bank
 pub word-again : (w word : ℕ) → word < 2 ^ (4 * (w + 1)) → wordOf (bankOf w word) ≡ word
 unfolding nibbles
 word-again w word h = pack-whole (suc w) word (subst (λ (k : ℕ). word < 2 ^ (4 * k)) (add-one w) h)
@@ -37,9 +38,6 @@ pub wide-word : (w word : ℕ) → length (nibbles w (word / 16)) ≡ w
 wide-word w word = length-nibbles w (word / 16)
 
 module _ (w word : ℕ) {v : Verdict} (e : v ≡ judged w word) (f : v ≡ Fine) where
-  pub own-word : word ≡ wordOf (bankOf w word)
-  own-word = sym (word-again w word (good w word e f .clear))
-
   -- the slot at a position, at the back, and before the back
   pub slot-word : {slot : ℕ} (i : ℕ) → i < w → slot ≡ word / 2 ^ (4 * (i + 1)) % 16 → slot ≡ slotAt i (bankOf w word)
   slot-word i l d = d ∙ sym (slot-here w word i l)
@@ -74,40 +72,34 @@ module _ (w word : ℕ) where
     unfolding changedIn
     insert-wide o = rw (le-leb 1 w (omega arith), lt-leb w 15 o)
 
-    module _ (o : w ≤ 15) {v : Bool} (e : v ≡ validWord w word) where
+    module _ (o : w ≤ 15) {v : Bool} (e : v ≡ validWord w (clearedWord w word)) where
       pub insert-wrong : not v ≡ true → refused Word (word ∷ []) ≡ changed w word (insertFromBack i)
       unfolding changedIn
       insert-wrong h = rw (le-leb 1 w (omega arith), le-leb w 15 o, ← e, not-true v h)
 
       module _ (h : not v ≡ false) where
         fine : Fine ≡ judged w word
-        unfolding judged
+        unfolding judgedIn
         fine = rw (le-leb 1 w (omega arith), le-leb w 15 o, ← e, not-false v h)
-
-        pub insert-clear : word < 2 ^ (4 * (w + 1))
-        insert-clear = good w word fine refl .clear
 
         pub insert-right : {r q : ℕ} → i ≤ n → r ≡ wordOf (insertedFromBack i (bankOf w word))
             → q ≡ word / 2 ^ (4 * w) % 16 → accepted (r ∷ q ∷ []) ≡ changed w word (insertFromBack i)
         insert-right l d b =
-            insert-so (words w) word (width-good w word fine refl) (word-valid w word fine refl) i (wide-word w word) s l m d
+            insert-so (words w) word (word-width w word fine refl) (word-valid w word fine refl) i (wide-word w word) s l m d
             (back-word w word fine refl b) refl
 
 -- ---- any call that breaks a rule of its own, after the judgement
 
 module _ (w word : ℕ) {v : Verdict} (e : v ≡ judged w word) (own : Refusal) where
   pub refused-by-word : {why : Refusal} → v ≡ No why → refused why (word ∷ []) ≡ refusedBy w word own
-  refused-by-word f = refused-word w word e ((numberOf own unless false) ∷ []) [] f
+  refused-by-word f = refused-held (words w) word e f ((numberOf own unless false) ∷ []) [] (word ∷ [])
 
   pub refused-by-own : v ≡ Fine → refused own (word ∷ []) ≡ refusedBy w word own
-  refused-by-own f = sym (go-on w word e f ((numberOf own unless false) ∷ []) [])
+  refused-by-own f = sym (go-on (words w) word e f ((numberOf own unless false) ∷ []) [] (word ∷ []))
 
 -- ---- what the functions inside ask, of a word that was judged
 
 module _ (w word : ℕ) {v : Verdict} (e : v ≡ judged w word) (f : v ≡ Fine) where
-  pub clear-here : word < 2 ^ (4 * (w + 1))
-  clear-here = good w word e f .clear
-
   pub width-here : w ≤ 15
   width-here = good w word e f .most
 
@@ -120,46 +112,22 @@ module _ (w word : ℕ) {v : Verdict} (e : v ≡ judged w word) (f : v ≡ Fine)
   pub before-width : (i : ℕ) → w - i < 16
   before-width i = omega (arith, good w word e f .most)
 
+  pub size-word : word % 16 ≤ w
+  size-word = omega (arith, good w word e f .sized, size-cleared w word)
+
   pub size-here : {n : ℕ} → n ≡ word % 16 → n ≤ w
-  size-here s = omega (arith, good w word e f .sized)
+  size-here s = omega (arith, size-word)
 
   pub next-here : {n i : ℕ} → n ≡ word % 16 → i < n → i + 1 ≤ w
-  next-here s l = omega (arith, good w word e f .sized)
-
-  pub size-word : word % 16 ≤ w
-  size-word = good w word e f .sized
+  next-here s l = omega (arith, size-word)
 
   pub new-size : {n : ℕ} → n ≤ w → n < 16
   new-size l = omega (arith, good w word e f .most)
 
--- ---- a word that the judgement refuses
+pub ruleset calls = (returns, judgement, word-width, word-valid, wide-word, size-word, slot-word, back-word, offset-word)
 
-module _ (w word : ℕ) {v : Verdict} {why : Refusal} (e : v ≡ judged w word) (f : v ≡ No why) where
-  pub asked-refused : (q : Question) → refused why (word ∷ []) ≡ asked w word q
-  unfolding askedIn
-  asked-refused q = refused-word w word e (questionRules q (bankOf w word)) (told q (bankOf w word) ∷ []) f
+pub ruleset asks = (needs, width-here, place-near, below-width, before-width, size-here, next-here, size-word, new-size)
 
-  pub changed-refused : (c : Change) → refused why (word ∷ []) ≡ changed w word c
-  unfolding changedIn
-  changed-refused c =
-      refused-word w word e (changeRules c (bankOf w word)) (wordOf (after c (bankOf w word)) ∷ handedOut c (bankOf w word)) f
-
-pub ruleset calls = (
-  returns,
-  asked-refused,
-  changed-refused,
-  width-good,
-  word-valid,
-  wide-word,
-  own-word,
-  size-word,
-  slot-word,
-  back-word,
-  offset-word,
-)
-
-pub ruleset asks = (needs, clear-here, width-here, place-near, below-width, before-width, size-here, next-here, size-word, new-size)
-
-pub ruleset inserts = (needs, insert-outside, insert-full, insert-wide, insert-wrong, insert-clear, insert-right)
+pub ruleset inserts = (needs, insert-outside, insert-full, insert-wide, insert-wrong, insert-right)
 
 pub ruleset refusals = (refused-by-word, refused-by-own)

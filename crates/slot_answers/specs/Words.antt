@@ -2,14 +2,12 @@
 use Prim.Native.Nat.{ℕ}
 use mathlib.Core.Bool.{false}
 use mathlib.Core.List.{List, [], _∷_}
-use lib.Dec.{leb}
 use Rattle.refusal.specs.declared.Refusal.{Refusal}
 use Rattle.refusal.specs.Refusals.{numberOf}
 use Rattle.refusal.specs.Answer.{Answer, Rule, _unless_, answered}
-use Rattle.bank.specs.Bank.{sorted}
 use Rattle.bank.specs.Calls.{Change, Question}
-use Rattle.bank.specs.Holder.{heldRules, changedIn, askedIn}
-use Rattle.nibbles.specs.Words.{wordOf, goodWidth, words}
+use Rattle.bank.specs.Holder.{heldRules, changedIn, askedIn, madeSortedIn, madeEmptyIn}
+use Rattle.nibbles.specs.Words.{words}
 
 -- what every call on a word needs, and then what this one needs, by rising number
 abbrev pub wordRules : ℕ → ℕ → List Rule → List Rule
@@ -28,9 +26,9 @@ abbrev pub asked : ℕ → ℕ → Question → Answer
 asked w word q = askedIn (words w) word q
 
 -- the sorted word with n slots taken; there is no word to hand back
-unfoldable pub madeSorted : ℕ → ℕ → Answer
-madeSorted w n = answered ((1 unless goodWidth w) ∷ (4 unless leb n w) ∷ []) (wordOf (sorted w n) ∷ []) []
+abbrev pub madeSorted : ℕ → ℕ → Answer
+madeSorted w n = madeSortedIn (words w) w n []
 
 -- the empty word is the sorted one with no slot taken
-unfoldable pub madeEmpty : ℕ → Answer
-madeEmpty w = answered ((1 unless goodWidth w) ∷ []) (wordOf (sorted w 0) ∷ []) []
+abbrev pub madeEmpty : ℕ → Answer
+madeEmpty w = madeEmptyIn (words w) w []

@@ -4,7 +4,7 @@ ghost use mathlib.Core.Path.{_≡_};
 ghost use Rattle.bank.specs.Calls.{size, get, back, backAtOffset};
 ghost use Rattle.slot_answers.specs.Words.{asked};
 ghost use Rattle.slot_answers.specs.Answers.{saidTold};
-use nibbles::inside::Verdict;
+use bank::Verdict;
 use nibbles::inside::judge;
 use refusal::Refusal;
 use slot_answers::Told;

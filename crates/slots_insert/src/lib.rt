@@ -6,7 +6,7 @@ ghost use Rattle.refusal.specs.Answer.{refused};
 ghost use Rattle.bank.specs.Calls.{insertFromBack};
 ghost use Rattle.slot_answers.specs.Words.{changed, refusedBy};
 ghost use Rattle.slot_answers.specs.Answers.{saidInserted};
-use nibbles::inside::Verdict;
+use bank::Verdict;
 use nibbles::inside::judge;
 use nibbles::inside::valid;
 use refusal::Refusal;

@@ -4,7 +4,7 @@ ghost use mathlib.Core.Path.{_≡_};
 ghost use Rattle.bank.specs.Calls.{fromValue};
 ghost use Rattle.slot_answers.specs.Words.{changed, madeSorted, madeEmpty};
 ghost use Rattle.slot_answers.specs.Answers.{saidChanged, saidMade};
-use nibbles::inside::Verdict;
+use bank::Verdict;
 use nibbles::inside::judge;
 use refusal::Refusal;
 use slot_answers::Changed;
@@ -40,12 +40,12 @@ pub fn make_sorted(width: usize, n: usize) -> Made
     Made::Word(inside::sorted(width, n))
 }
 
-// A word from outside, taken in as it is where it is valid at this width.
+// A word from outside, without what strays above its width, where that is valid.
 pub fn from_value(word: u64, width: usize) -> Changed
     ensures { λ r. ⌜ saidChanged r ≡ changed width word fromValue ⌝ }
 {
     if let Verdict::No(why) = judge(word, width) {
         return Changed::Refused { why, word };
     }
-    Changed::Word(word)
+    Changed::Word(inside::cleared(word, width))
 }

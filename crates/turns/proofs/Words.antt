@@ -10,18 +10,18 @@ use lib.Seq.{take-at, drop-at, length-take-le, getD-take}
 use lib.Pow.{shl-exact, split, shr-lt, shr-shr, pow-pos, field, mod-mod-pow, mod-pow-add}
 use borrow.Author.Needs.{needs}
 use Rattle.bank.specs.Lists.{swapped, part, up}
-use Rattle.bank.specs.Bank.{sorted, insertedFromBack, resized, placeInUse}
+use Rattle.bank.specs.Bank.{Bank, sorted, insertedFromBack, resized, placeInUse}
 use Rattle.bank.proofs.Counts.{place-at, place-none}
 use Rattle.bank.proofs.Sorted.{length-up, up-append, take-up, sorted-slots, sorted-size}
 use Rattle.nibbles.specs.Nibbles.{pack, nibbles}
 use Rattle.nibbles.specs.Words.{bankOf, wordOf}
-use Rattle.nibbles.proofs.Nibbles.{pow-step, low-lt, high-lt, join-lt, wider, length-nibbles, getD-nibbles, take-nibbles, pack-append, pack-nibbles, pack-whole, nibbles-pack}
-use Rattle.nibbles.proofs.Words.{slot-here}
+use Rattle.nibbles.proofs.Nibbles.{pow-step, low-lt, high-lt, join-lt, wider, length-nibbles, getD-nibbles, take-nibbles, pack-append, pack-nibbles, nibbles-pack, nibbles-low}
+use Rattle.nibbles.proofs.Words.{slot-here, bank-low}
 use Rattle.turns.proofs.Moves.{part-nibbles, pack-inserted, small-set, length-put}
 
 -- ---- reading a word
 
-pub slots-lt : (w word : ℕ) → word < 2 ^ (4 * (w + 1)) → word / 16 < 2 ^ (4 * w)
+slots-lt : (w word : ℕ) → word < 2 ^ (4 * (w + 1)) → word / 16 < 2 ^ (4 * w)
 slots-lt w word h = shr-lt (4 * w) 4 (subst (λ (n : ℕ). word < 2 ^ n) (let e : 4 * (w + 1) ≡ 4 * w + 4 = omega arith in e) h)
 
 -- the position in use that holds a slot, or the size: i positions are passed
@@ -64,11 +64,23 @@ next-size-lt {kept} {below} w word i l m e d =
     let p : 2 ^ (4 * (i + 1)) ≡ 2 ^ (4 * i) * 16 = ap (λ (k : ℕ). 2 ^ (4 * k)) (add-one i) ∙ pow-step i in
     omega (arith, mod-lt (word / 16) (pow-pos (4 * i)))
 
-module _ (w word : ℕ) (h : word < 2 ^ (4 * (w + 1))) where
-  pub resized-here : (n : ℕ) → word / 16 * 16 + n ≡ wordOf (resized n (bankOf w word))
-  unfolding pack
-  resized-here n = rw (pack-whole w (word / 16) (slots-lt w word h))
+-- the positions without what strays above them
+module _ (w word : ℕ) {slots : ℕ} (e : slots ≡ word / 16 % 2 ^ (4 * w)) where
+  pub positions-lt : slots < 2 ^ (4 * w)
+  positions-lt = low-lt (word / 16) w e
 
+  pub positions-fit : w ≤ 15 → slots < 2 ^ 60
+  positions-fit m = wider w 15 m positions-lt
+
+  pub positions-here : nibbles w slots ≡ nibbles w (word / 16)
+  positions-here = ap (nibbles w) e ∙ nibbles-low w (word / 16)
+
+  pub resized-here : (n : ℕ) → slots * 16 + n ≡ wordOf (resized n (bankOf w word))
+  unfolding pack
+  resized-here n = rw (pack-nibbles, e)
+
+-- an insertion into a word with no stray bits
+module _ (w word : ℕ) (h : word < 2 ^ (4 * (w + 1))) where
   inserted-slots : (i : ℕ) → i < w
       → ((word / 16 / 2 ^ (4 * i) % 2 ^ (4 * (w - 1 - i)) * 16 + word / 16 / 2 ^ (4 * (w - 1))) * 2 ^ (4 * i) + word / 16 % 2 ^
       (4 * i)) * 16
@@ -77,7 +89,7 @@ module _ (w word : ℕ) (h : word < 2 ^ (4 * (w + 1))) where
   inserted-slots i l = rw (length-nibbles, pack-inserted w (word / 16) i l (slots-lt w word h))
 
   -- the same by the nibbles of the word: those below i, the one at the back, and those from i to the one before it
-  pub inserted-here : (i : ℕ) → i < w
+  inserted-here : (i : ℕ) → i < w
       → (word % 2 ^ (4 * w) / 2 ^ (4 * (i + 1)) * 16 + word / 2 ^ (4 * w)) * 2 ^ (4 * (i + 1)) +
       (word % 2 ^ (4 * w) % 2 ^ (4 * (i + 1)) + 1)
       ≡ wordOf (insertedFromBack i (bankOf w word))
@@ -103,26 +115,46 @@ module _ (w word : ℕ) (h : word < 2 ^ (4 * (w + 1))) where
           = ap (λ (k : ℕ). x * 2 ^ (4 * k)) (add-one i) ∙ ap (λ (z : ℕ). x * z) (pow-step i) ∙ sym (mul-assoc x (2 ^ (4 * i)) 16) in
           omega arith
 
+-- and into any word: what strays above the width is not among its nibbles
+inserted-any : (w word i : ℕ) → i < w
+    → (word % 2 ^ (4 * w) / 2 ^ (4 * (i + 1)) * 16 + word / 2 ^ (4 * w) % 16) * 2 ^ (4 * (i + 1)) +
+    (word % 2 ^ (4 * w) % 2 ^ (4 * (i + 1)) + 1)
+    ≡ wordOf (insertedFromBack i (bankOf w word))
+inserted-any w word i l =
+    ap₂ (λ (a b : ℕ). (a / 2 ^ (4 * (i + 1)) * 16 + b) * 2 ^ (4 * (i + 1)) + (a % 2 ^ (4 * (i + 1)) + 1)) (sym below) (sym back)
+    ∙ inserted-here w (word % 2 ^ (4 * (w + 1))) (mod-lt word (pow-pos (4 * (w + 1)))) i l
+    ∙ ap (λ (b : Bank). wordOf (insertedFromBack i b)) (bank-low w word)
+  where
+    whole : 4 * (w + 1) ≡ 4 + 4 * w
+    whole = omega arith
+
+    below : word % 2 ^ (4 * (w + 1)) % 2 ^ (4 * w) ≡ word % 2 ^ (4 * w)
+    below = ap (λ (n : ℕ). word % 2 ^ n % 2 ^ (4 * w)) whole ∙ mod-mod-pow word 4 (4 * w)
+
+    back : word % 2 ^ (4 * (w + 1)) / 2 ^ (4 * w) ≡ word / 2 ^ (4 * w) % 16
+    back = ap (λ (n : ℕ). word % 2 ^ n / 2 ^ (4 * w)) whole ∙ field word 4 (4 * w)
+
 -- what stands below the width, by a difference
-module _ (w word : ℕ) {last : ℕ} (f : word < 2 ^ 64) (e : last ≡ word / 2 ^ (4 * w)) where
-  lifted : (last * 2 ^ (4 * w)) % 2 ^ 64 ≡ word / 2 ^ (4 * w) * 2 ^ (4 * w)
+module _ (w word : ℕ) {upper : ℕ} (f : word < 2 ^ 64) (e : upper ≡ word / 2 ^ (4 * w)) where
+  lifted : (upper * 2 ^ (4 * w)) % 2 ^ 64 ≡ word / 2 ^ (4 * w) * 2 ^ (4 * w)
   lifted =
       ap (λ (x : ℕ). (x * 2 ^ (4 * w)) % 2 ^ 64) e
       ∙ mod-eq-of-lt (let z : word / 2 ^ (4 * w) * 2 ^ (4 * w) < 2 ^ 64 = omega (arith, split word (4 * w)) in z)
 
-  pub below-fits : (last * 2 ^ (4 * w)) % 2 ^ 64 ≤ word
+  pub below-fits : (upper * 2 ^ (4 * w)) % 2 ^ 64 ≤ word
   below-fits = omega (arith, lifted, split word (4 * w))
 
-  pub below-is : word - (last * 2 ^ (4 * w)) % 2 ^ 64 ≡ word % 2 ^ (4 * w)
+  pub below-is : word - (upper * 2 ^ (4 * w)) % 2 ^ 64 ≡ word % 2 ^ (4 * w)
   below-is = omega (arith, lifted, split word (4 * w))
 
 pub ruleset belows = (needs, below-fits, below-is)
 
 -- an insertion as one sum: what moves up by a nibble is added fifteen times more, and the slot at the back once
-module _ (w word i : ℕ) (h : word < 2 ^ (4 * (w + 1))) (m : w ≤ 15) (o : i ≤ word % 16) (f : word % 16 < w)
-    {kept last later : ℕ} (ek : kept ≡ word % 2 ^ (4 * w)) (el : last ≡ word / 2 ^ (4 * w)) (et : later ≡ kept / 2 ^ (4 * (i + 1))) where
+module _ (w word i : ℕ) (m : w ≤ 15) (o : i ≤ word % 16) (f : word % 16 < w)
+    {kept upper last later : ℕ} (ek : kept ≡ word % 2 ^ (4 * w)) (eu : upper ≡ word / 2 ^ (4 * w)) (el : last ≡ upper % 16)
+    (et : later ≡ kept / 2 ^ (4 * (i + 1))) where
   last-lt : last < 16
-  last-lt = high-lt word w (w + 1) 1 el h (omega arith)
+  last-lt = rw el (mod-lt upper (zero-lt-suc 15))
 
   later-lt : later < 2 ^ (4 * (w - i - 1))
   later-lt = high-lt kept (i + 1) w (w - i - 1) et (low-lt word w ek) (omega arith)
@@ -164,7 +196,7 @@ module _ (w word i : ℕ) (h : word < 2 ^ (4 * (w + 1))) (m : w ≤ 15) (o : i �
   shift-fits = omega (arith, sum-fits)
 
   pub inserted-sum : kept + ((15 * later + last) * 2 ^ (4 * (i + 1))) % 2 ^ 64 + 1 ≡ wordOf (insertedFromBack i (bankOf w word))
-  inserted-sum = sum ∙ rw (et, ek, el) (inserted-here w word h i (omega arith))
+  inserted-sum = sum ∙ rw (et, ek, el, eu) (inserted-any w word i (omega arith))
 
 pub ruleset inserts = (times-fits, gain-fits, shift-fits, sum-fits, inserted-sum)
 

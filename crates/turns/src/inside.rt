@@ -31,30 +31,47 @@ pub fn turn(x: u64, width: usize, a: usize, b: usize, c: usize) -> u64
     join(low(x, a), join(second, above, c - b), a)
 }
 
+// The positions of a word, without what strays above its width.
+fn positions(word: u64, width: usize) -> u64
+    requires { ⌜ width ≤ 15 ⌝ }
+    ensures { λ r. ⌜ r ≡ word / 16 % 2 ^ (4 * width) ⌝ }
+{
+    low(high(word, 1), width)
+}
+
+// The word without what strays above its width.
+pub fn cleared(word: u64, width: usize) -> u64
+    requires { ⌜ width ≤ 15 ⌝ }
+    ensures { λ r. ⌜ r ≡ wordOf (bankOf width word) ⌝ }
+{
+    join(low(word, 1), positions(word, width), 1)
+}
+
 // The word whose positions a to c-1 are old b to c-1, then old a to b-1, with a size of its own.
 pub fn moved(word: u64, width: usize, a: usize, b: usize, c: usize, size: usize) -> u64
-    requires { ⌜ (a ≤ b) × (b ≤ c) × (c ≤ width) × (width ≤ 15) × (size < 16) × (word < 2 ^ (4 * (width + 1))) ⌝ }
+    requires { ⌜ (a ≤ b) × (b ≤ c) × (c ≤ width) × (width ≤ 15) × (size < 16) ⌝ }
     ensures { λ r. ⌜ r ≡ pack (size ∷ turned a b c (nibbles width (word / 16))) ⌝ }
 {
-    join(size as u64, turn(high(word, 1), width, a, b, c), 1)
+    join(size as u64, turn(positions(word, width), width, a, b, c), 1)
 }
 
 // The nibbles below the width, where those from the width on are at hand.
-fn below(word: u64, last: u64, width: usize) -> u64
-    requires { ⌜ (width ≤ 15) × (last ≡ word / 2 ^ (4 * width)) ⌝ }
+fn below(word: u64, upper: u64, width: usize) -> u64
+    requires { ⌜ (width ≤ 15) × (upper ≡ word / 2 ^ (4 * width)) ⌝ }
     ensures { λ r. ⌜ r ≡ word % 2 ^ (4 * width) ⌝ }
 {
-    word - (last << (4 * width))
+    word - (upper << (4 * width))
 }
 
 // The slot at the back goes to position i, the later ones move up, and one more is in use. It is one sum: what moves up by a nibble
 // becomes sixteen times as much, so fifteen times as much is added to it, and the slot at the back goes below.
 pub fn inserted(word: u64, width: usize, i: usize) -> u64
-    requires { ⌜ (i ≤ word % 16) × (word % 16 < width) × (width ≤ 15) × (word < 2 ^ (4 * (width + 1))) ⌝ }
+    requires { ⌜ (i ≤ word % 16) × (word % 16 < width) × (width ≤ 15) ⌝ }
     ensures { λ r. ⌜ r ≡ wordOf (insertedFromBack i (bankOf width word)) ⌝ }
 {
-    let last = high(word, width);
-    let kept = below(word, last, width);
+    let upper = high(word, width);
+    let last = low(upper, 1);
+    let kept = below(word, upper, width);
     let later = high(kept, i + 1);
     kept + ((15 * later + last) << (4 * (i + 1))) + 1
 }
@@ -69,18 +86,18 @@ pub fn put(x: u64, width: usize, k: usize, d: usize) -> u64
 
 // The same positions with another size.
 pub fn resize(word: u64, width: usize, n: usize) -> u64
-    requires { ⌜ (n < 16) × (word < 2 ^ (4 * (width + 1))) ⌝ }
+    requires { ⌜ (n < 16) × (width ≤ 15) ⌝ }
     ensures { λ r. ⌜ r ≡ wordOf (resized n (bankOf width word)) ⌝ }
 {
-    join(n as u64, high(word, 1), 1)
+    join(n as u64, positions(word, width), 1)
 }
 
 // Positions i and j change places.
 pub fn swap(word: u64, width: usize, i: usize, j: usize) -> u64
-    requires { ⌜ (i < width) × (j < width) × (width ≤ 15) × (word < 2 ^ (4 * (width + 1))) ⌝ }
+    requires { ⌜ (i < width) × (j < width) × (width ≤ 15) ⌝ }
     ensures { λ r. ⌜ r ≡ wordOf (exchanged i j (bankOf width word)) ⌝ }
 {
-    let slots = high(word, 1);
+    let slots = positions(word, width);
     let one = put(slots, width, i, nibble(slots, j));
     let both = put(one, width, j, nibble(slots, i));
     join(low(word, 1), both, 1)

@@ -9,7 +9,7 @@ filled-spec =
     tie.close
     (tie.spec
     (λ c κs. search needs)
-    (λ c. search needs)
-    (λ c. search needs)
     (λ c κs. search needs)
-    (λ c. search filling))
+    (λ c. search needs)
+    (λ c. search needs)
+    (λ c. search (needs, filling)))

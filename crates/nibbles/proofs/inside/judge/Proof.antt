@@ -3,20 +3,20 @@ use mathlib.Core.Path.{sym, _∙_}
 use native.Mathlib.Omega.{arith}
 use borrow.Author.Needs.{needs}
 use borrow.Author.Tests.{lt-leb, le-leb, not-true, not-false}
-use Rattle.nibbles.specs.Judged.{judged}
+use Rattle.bank.specs.Judged.{judgedIn}
 use Rattle.nibbles.proofs.inside.judge.Statement.{statement}
 use Rattle.nibbles.proofs.inside.judge.Tie as tie
 
 returns : tie.Need-returns
-unfolding judged
+unfolding judgedIn
 returns c = rw (lt-leb 1 (c .before .args .width) (omega arith))
 
 returns-2 : tie.Need-returns-2
-unfolding judged
+unfolding judgedIn
 returns-2 c = rw (le-leb 1 (c .before .before .args .width) (omega arith), lt-leb (c .before .before .args .width) 15 (omega arith))
 
 returns-3 : tie.Need-returns-3
-unfolding judged
+unfolding judgedIn
 returns-3 c =
     let s = c .before .before .before .before in
     rw (
@@ -27,7 +27,7 @@ returns-3 c =
     )
 
 returns-4 : tie.Need-returns-4
-unfolding judged
+unfolding judgedIn
 returns-4 c =
     let s = c .before .before .before .before in
     rw (
