@@ -23,7 +23,7 @@ static uint8_t stack[ROOM];
 static ucontext_t here, there;
 
 /* Two keys of 256 bytes that differ in the last, and numbers to lend. */
-static uint8_t one[256], other[256];
+static uint8_t one[256], other[256], bank[25];
 static uint64_t word, ikey, child, frame, lacking, entries, order, ikeys[15], children[16];
 static size_t told, shifts, start, n, c, blocks;
 
@@ -33,6 +33,10 @@ static void insert_from_back(void) { cherchivola_insert_from_back(&word, 15, 0, 
 static void rotate(void) { cherchivola_rotate(&word, 15, 0, 3); }
 static void exchange(void) { cherchivola_exchange(&word, 15, 0, 3); }
 static void remove_slot(void) { cherchivola_remove_slot(&word, 15, 0); }
+static void wide_insert(void) { cherchivola_wide_insert_from_back(bank, 24, 0, &told); }
+static void wide_rotate(void) { cherchivola_wide_rotate(bank, 24, 0, 3); }
+static void wide_remove_slot(void) { cherchivola_wide_remove_slot(bank, 24, 0); }
+static void wide_make_sorted(void) { cherchivola_wide_make_sorted(24, 5, bank); }
 static void key_new(void) { cherchivola_key_new(one, 256, &ikey, &shifts, &start); }
 static void key_shift_by(void) { cherchivola_key_shift_by(one, 256, &ikey, &shifts, &start, 8); }
 static void compare_keys(void) { cherchivola_compare_keys(one, 256, other, 256, &order); }
@@ -107,6 +111,8 @@ int main(void) {
     memset(one, 'a', sizeof one), memset(other, 'a', sizeof other), other[255] = 'b';
     cherchivola_empty(15, &word);
     tell("insert_from_back", insert_from_back), tell("rotate", rotate), tell("exchange", exchange), tell("remove_slot", remove_slot);
+    tell("wide make_sorted", wide_make_sorted), tell("wide insert_from_back", wide_insert), tell("wide rotate", wide_rotate);
+    tell("wide remove_slot", wide_remove_slot);
     tell("key_new", key_new), tell("key_compare_suffix, 256 bytes", compare_suffix), tell("key_shift_by", key_shift_by);
     tell("compare_keys, 256 bytes", compare_keys);
     tell("insert_key_and_child", insert_key), tell("find_insert_position", find_position), tell("child_for", child_for);

@@ -1,6 +1,6 @@
 /*
- * Cherchivola for C and C++: the frame-buffer bank of the camera (slot words), its labels (keys), one internode by itself, the label index
- * in memory that the caller lends, and its image on a card.
+ * Cherchivola for C and C++: the frame-buffer bank of the camera (slot words, and wide banks for more than 15 buffers), its labels (keys),
+ * one internode by itself, the label index in memory that the caller lends, and its image on a card.
  *
  * Every call but read_ikey returns 0 when it is accepted. Otherwise it returns the number of its refusal, and every number, word and byte
  * that was lent to it is as it was before, but for a number that is lent for what the refusal tells, and for an index that `load` empties.
@@ -11,7 +11,8 @@
  *
  * What a caller owes:
  * - A lent pointer is not null, is aligned for its type and points to as many elements as the length behind it says; `ikeys` points to 15
- *   words and `children` to 16. Also where a length is 0 the pointer is a valid one, such as that of an empty string.
+ *   words, `children` to 16, and a wide bank is 25 bytes. Also where a length is 0 the pointer is a valid one, such as that of an empty
+ *   string.
  * - Nothing lent to a call overlaps anything else that is lent to it, and nobody else reads or writes it during the call. So a key that
  *   stands in lent memory is copied out before it is handed to remove_key.
  * - There is stack enough. Below each part stands how much its calls take.
@@ -33,8 +34,8 @@ extern "C" {
 /* What a call returns. */
 enum {
     CHERCHIVOLA_ACCEPTED = 0,
-    CHERCHIVOLA_WIDTH = 1,    /* the width is not 1 to 15 */
-    CHERCHIVOLA_WORD = 2,     /* the slot word is not valid at this width */
+    CHERCHIVOLA_WIDTH = 1,    /* the width is not 1 to 15, or for a wide bank not 16 to 24 */
+    CHERCHIVOLA_WORD = 2,     /* the slot word or wide bank is not valid at this width */
     CHERCHIVOLA_NODE = 3,     /* the internode has over 15 ikeys, or they do not strictly rise */
     CHERCHIVOLA_POSITION = 4, /* a position, size or offset is out of range */
     CHERCHIVOLA_FULL = 5,     /* no slot is free, or the internode has 15 ikeys */
@@ -105,6 +106,42 @@ uint64_t cherchivola_insert_first_free(uint64_t *word, size_t width, size_t i);
 
 /* As remove, at the position in use that holds the slot. Refused: 1, 2, 6; then *word is as it was. */
 uint64_t cherchivola_remove_slot(uint64_t *word, size_t width, size_t slot);
+
+/*
+ * Wide banks, for widths 16 to 24: the same calls on 25 bytes. Byte 0 is the size, byte i+1 the slot at position i, and the bytes past
+ * position width-1 are 0. The first `size` positions are in use, the others are free, and each slot from 0 to width-1 stands at one
+ * position. The free slot at position width-1 goes out next.
+ *
+ * Stack: under 150 bytes.
+ */
+
+/* Banks made anew. Refused: 1, and make_sorted 4 for n over the width; then the bank is as it was. */
+uint64_t cherchivola_wide_empty(size_t width, uint8_t bank[25]);                 /* no slot in use; slot 0 goes out first */
+uint64_t cherchivola_wide_make_sorted(size_t width, size_t n, uint8_t bank[25]); /* slots 0 to n-1 in use, in order */
+
+/* Bytes from outside, written to the bank where they are a valid one. Refused: 1, 2; then the bank is as it was. */
+uint64_t cherchivola_wide_from_bytes(const uint8_t bytes[25], size_t width, uint8_t bank[25]);
+
+/* Questions: the answer is written to *told. Refused: 1, 2, and 4 for a place out of range; then *told is as it was. */
+uint64_t cherchivola_wide_size(const uint8_t bank[25], size_t width, size_t *told);          /* how many slots are in use */
+uint64_t cherchivola_wide_get(const uint8_t bank[25], size_t width, size_t i, size_t *told); /* the slot at position i */
+uint64_t cherchivola_wide_back(const uint8_t bank[25], size_t width, size_t *told);          /* the slot at the last position */
+
+/* Changes of the bank. Refused: 1, 2, and 4 for a place out of range; then the bank is as it was, byte for byte. */
+uint64_t cherchivola_wide_remove(uint8_t bank[25], size_t width, size_t i);         /* the slot rests behind all free ones */
+uint64_t cherchivola_wide_remove_to_back(uint8_t bank[25], size_t width, size_t i); /* the slot goes out next */
+uint64_t cherchivola_wide_exchange(uint8_t bank[25], size_t width, size_t i, size_t j); /* any two positions */
+/* positions i to width-1 become old j to width-1, then old i to j-1 */
+uint64_t cherchivola_wide_rotate(uint8_t bank[25], size_t width, size_t i, size_t j);
+
+/* The slot at the back is put to use at position i and written to *slot. Refused: 1, 2, 4, 5; then both are as they were. */
+uint64_t cherchivola_wide_insert_from_back(uint8_t bank[25], size_t width, size_t i, size_t *slot);
+
+/* The first free slot, the one that was removed last, is put to use at position i. Refused: 1, 2, 4, 5; then the bank is as it was. */
+uint64_t cherchivola_wide_insert_first_free(uint8_t bank[25], size_t width, size_t i);
+
+/* As remove, at the position in use that holds the slot. Refused: 1, 2, 6; then the bank is as it was. */
+uint64_t cherchivola_wide_remove_slot(uint8_t bank[25], size_t width, size_t slot);
 
 /*
  * Keys. A key is up to 256 bytes of the caller's. It is looked at eight bytes at a time, one layer after the other: beside the bytes stand

@@ -20,7 +20,7 @@ PICTURE = HERE / "parts.svg"
 # The comment in crates.txt: the band, the room's title, a line below it.
 ROOMS = {
     "NAME: what it stands on. Leaves first.": ("ground", "under all", "refusals and their numbers; the bytewise order, the sorted map"),
-    "slot words": ("words", "slot words", "which frame buffers are in use, in what order"),
+    "slot words and wide banks": ("words", "slot words and wide banks", "which frame buffers are in use, in what order"),
     "keys": ("words", "keys", "a label's bytes, eight at a time"),
     "one node": ("node", "one node", "one internode or one leaf: search, insertion, cut"),
     "lent memory, and whether it is a tree": ("memory", "lent memory and its audit", "nodes and cells, and whether they are a tree"),
@@ -28,7 +28,7 @@ ROOMS = {
     "what it means: a sorted map": ("meaning", "what it means", "the index answers as a sorted map"),
     "lines in, lines out": ("lines", "lines in, lines out", "the program, and what it prints"),
     "the index saved to a card": ("card", "the card", "the index saved as blocks with checks, and read back; the program that does both"),
-    "for the camera": ("camera", "for the camera", "39 calls for C, and how answers cross"),
+    "for the camera": ("camera", "for the camera", "52 calls for C, and how answers cross"),
     "for the auditor": ("demands", "for the auditor", "the demands as theorems"),
     "programs that replay recorded answers": ("side", "replay programs", "beside what they ask"),
 }

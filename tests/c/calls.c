@@ -122,6 +122,41 @@ static void call_insert_from_back(void) {
     tell_word(0), tell_size(0);
 }
 
+/* ---- wide banks: the bank is the line's first key, 25 bytes, and its width the first number; a lent number's value before is the last */
+
+static uint8_t *bank(int k) {
+    if (k >= keys || key_length[k] != 25) fail("no bank of 25 bytes", "line");
+    return key[k];
+}
+
+/* Prints a bank as it is now. */
+static void tell_bank(int k) {
+    printf(" x");
+    for (int place = 0; place < 25; place++) printf("%02x", bank(k)[place]);
+}
+
+static void call_wide_empty(void) { returned(cherchivola_wide_empty(at(0), bank(0))), tell_bank(0); }
+static void call_wide_make_sorted(void) { returned(cherchivola_wide_make_sorted(at(0), at(1), bank(0))), tell_bank(0); }
+static void call_wide_size(void) { returned(cherchivola_wide_size(bank(0), at(0), size(0, 1))), tell_bank(0), tell_size(0); }
+static void call_wide_get(void) { returned(cherchivola_wide_get(bank(0), at(0), at(1), size(0, 2))), tell_bank(0), tell_size(0); }
+static void call_wide_back(void) { returned(cherchivola_wide_back(bank(0), at(0), size(0, 1))), tell_bank(0), tell_size(0); }
+static void call_wide_insert_first_free(void) { returned(cherchivola_wide_insert_first_free(bank(0), at(0), at(1))), tell_bank(0); }
+static void call_wide_remove(void) { returned(cherchivola_wide_remove(bank(0), at(0), at(1))), tell_bank(0); }
+static void call_wide_remove_to_back(void) { returned(cherchivola_wide_remove_to_back(bank(0), at(0), at(1))), tell_bank(0); }
+static void call_wide_remove_slot(void) { returned(cherchivola_wide_remove_slot(bank(0), at(0), at(1))), tell_bank(0); }
+static void call_wide_exchange(void) { returned(cherchivola_wide_exchange(bank(0), at(0), at(1), at(2))), tell_bank(0); }
+static void call_wide_rotate(void) { returned(cherchivola_wide_rotate(bank(0), at(0), at(1), at(2))), tell_bank(0); }
+
+static void call_wide_from_bytes(void) {
+    returned(cherchivola_wide_from_bytes(bank(0), at(0), bank(1)));
+    tell_bank(0), tell_bank(1);
+}
+
+static void call_wide_insert_from_back(void) {
+    returned(cherchivola_wide_insert_from_back(bank(0), at(0), at(1), size(0, 2)));
+    tell_bank(0), tell_size(0);
+}
+
 /* ---- keys: a key's three numbers are the line's first three */
 
 static void call_read_ikey(void) { returned(cherchivola_read_ikey(key[0], key_length[0], at(0))); }
@@ -349,7 +384,9 @@ static const struct named notes[] = {
 static const struct named calls[] = {
     CALL(empty), CALL(make_sorted), CALL(from_value), CALL(size), CALL(get), CALL(back), CALL(back_at_offset), CALL(set_size),
     CALL(swap_free_slots), CALL(insert_from_back), CALL(insert_first_free), CALL(remove), CALL(remove_to_back), CALL(remove_slot),
-    CALL(exchange), CALL(rotate), CALL(read_ikey), CALL(compare_keys), CALL(key_new), CALL(key_shift), CALL(key_shift_by), CALL(key_unshift), CALL(key_unshift_all),
+    CALL(exchange), CALL(rotate), CALL(wide_empty), CALL(wide_make_sorted), CALL(wide_from_bytes), CALL(wide_size), CALL(wide_get),
+    CALL(wide_back), CALL(wide_insert_from_back), CALL(wide_insert_first_free), CALL(wide_remove), CALL(wide_remove_to_back),
+    CALL(wide_remove_slot), CALL(wide_exchange), CALL(wide_rotate), CALL(read_ikey), CALL(compare_keys), CALL(key_new), CALL(key_shift), CALL(key_shift_by), CALL(key_unshift), CALL(key_unshift_all),
     CALL(key_compare), CALL(key_compare_suffix), CALL(find_insert_position), CALL(compare_key), CALL(child_for),
     CALL(insert_key_and_child), CALL(lengths), CALL(clear), CALL(put), CALL(remove_key), CALL(find), CALL(kth), CALL(count), CALL(audit),
     CALL(save), CALL(load)};

@@ -15,10 +15,11 @@ from collections import Counter
 from some import SLOT_CALLS, KEY_CALLS, NODE_CALLS, key_call, node_call, slot_call
 from images import load_damaged
 from lent import SIZES, Lent
+from wide import WIDE_CALLS, wide_call
 
 SHOWN = 10
 INDEX_CALLS = ["lengths", "clear", "put", "remove_key", "find", "kth", "count", "audit", "save", "load"]
-FUNCTIONS = SLOT_CALLS + KEY_CALLS + NODE_CALLS + INDEX_CALLS
+FUNCTIONS = SLOT_CALLS + WIDE_CALLS + KEY_CALLS + NODE_CALLS + INDEX_CALLS
 
 
 class Talk:
@@ -55,6 +56,9 @@ def talked(seed, scale):
                 talk.call(name, *some(rng, name))
     for size, count in SIZES:
         Lent(talk, rng, size).session(count * scale)
+    for _ in range(8000 * scale):
+        for name in WIDE_CALLS:
+            talk.call(name, *wide_call(rng, name))
     return talk
 
 

@@ -15,6 +15,7 @@ import index
 import internodes
 import layers
 import nodes
+import wides
 import words
 from answers import PlainMap, output_for
 from audit import RULES, broken_rules, is_tree
@@ -432,8 +433,31 @@ def loaded_as_put(n, c, entries, counts):
     counts[expected] = counts.get(expected, 0) + 1
 
 
-CHECKS = [check_words, check_bank, check_keys, check_layers, check_text, check_longest, check_numbers, check_levels, check_shapes,
-          check_refusals, check_crafted, check_calls, check_calls_on_crafted, check_images, check_cards, check_scripts,
+# Wide banks: every call keeps a valid bank, and a run withdrawn last first gives it back.
+def check_wides(scale):
+    rng, runs = random.Random(24), 0
+    for width in range(16, 25):
+        for _ in range(20 * scale):
+            start = wides.packed(rng.randint(0, width), rng.sample(range(width), width))
+            bank, back = start, []
+            for _ in range(30):
+                name, a = rng.choice(("insert_from_back", "remove", "remove_slot")), rng.randint(0, width)
+                number, after, _ = getattr(wides, name)(bank, width, a)
+                if number:
+                    continue
+                same(wides.judged(after, width), 0, "valid")
+                at = bank[1:].index(a) if name == "remove_slot" else a
+                back.append(("remove_to_back" if name == "insert_from_back" else "insert_first_free", at))
+                bank = after
+            for name, a in reversed(back):
+                bank = getattr(wides, name)(bank, width, a)[1]
+            same(bank, start, "withdrawn")
+            runs += 1
+    return "%d runs" % runs
+
+
+CHECKS = [check_words, check_bank, check_wides, check_keys, check_layers, check_text, check_longest, check_numbers, check_levels,
+          check_shapes, check_refusals, check_crafted, check_calls, check_calls_on_crafted, check_images, check_cards, check_scripts,
           check_files, check_damage]
 
 

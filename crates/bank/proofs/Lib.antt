@@ -1,5 +1,6 @@
 pub mod Tests
 pub mod Counts
+pub mod Marks
 pub mod Moves
 pub mod Sorted
 pub mod Kept

@@ -57,6 +57,10 @@ module _ {Held : Type 0} (h : Holder Held) (held : Held) (good : h .goodWidth �
       unfolding changedIn
       slot-unused slot p l = rw (good, valid, g, le-ltb (placeInUse slot b) (b .size) (omega arith))
 
+      pub insert-position : (i : ℕ) → n < i → refused Position given ≡ changedIn h held (insertFromBack i)
+      unfolding changedIn
+      insert-position i l = rw (good, valid, g, lt-leb i (b .size) (omega arith))
+
       pub first-free-position : (i : ℕ) → n < i → refused Position given ≡ changedIn h held (insertFirstFree i)
       unfolding changedIn
       first-free-position i l = rw (good, valid, g, lt-leb i (b .size) (omega arith))
@@ -95,6 +99,10 @@ module _ {Held : Type 0} (h : Holder Held) (held : Held) (good : h .goodWidth �
         pub offset-position : (k : ℕ) → w - n ≤ k → b .size ≤ w → refused Position given ≡ askedIn h held (backAtOffset k)
         unfolding askedIn
         offset-position k l m = rw (good, valid, g, wide, le-ltb (b .size + k) w (omega arith))
+
+        pub insert-full : (i : ℕ) → i ≤ n → w ≤ n → refused Full given ≡ changedIn h held (insertFromBack i)
+        unfolding changedIn
+        insert-full i l m = rw (good, valid, g, wide, le-leb i (b .size) (omega arith), le-ltb (b .size) w (omega arith))
 
         pub first-free-full : (i : ℕ) → i ≤ n → w ≤ n → refused Full given ≡ changedIn h held (insertFirstFree i)
         unfolding changedIn
@@ -218,6 +226,8 @@ pub ruleset returns = (
   remove-position,
   withdraw-position,
   slot-unused,
+  insert-position,
+  insert-full,
   first-free-position,
   first-free-full,
   swap-first-in-use,

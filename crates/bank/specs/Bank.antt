@@ -1,4 +1,4 @@
--- A bank of slots, whatever holds it: a word today, wider memory later.
+-- A bank of slots, whatever holds it: a slot word, or the bytes of a wide bank.
 use Prim.Native.Nat.{ℕ, _+_, _-_}
 use mathlib.Core.Bool.{Bool, cond, _&&_}
 use mathlib.Core.List.{List}

@@ -1,5 +1,5 @@
--- Whatever holds a bank: a slot word of some width, wider memory later. A holder says how it is judged and how a bank lies in it; what
--- its calls answer, and what one call of a history does to it, is said here once for all of them.
+-- Whatever holds a bank: a slot word of some width, or the bytes of a wide bank. A holder says how it is judged and how a bank lies in it;
+-- what its calls answer, and what one call of a history does to it, is said here once for all of them.
 use Prim.Native.Nat.{ℕ}
 use mathlib.Core.Bool.{Bool, true, false}
 use mathlib.Core.List.{List, [], _∷_, _++_}

@@ -12,7 +12,7 @@ use mathlib.Core.Logic.{_⊎_, _≢_}
 use mathlib.Core.Bool.{not, _&&_}
 use mathlib.Core.List.{List, [], _∷_, _++_}
 use lib.Dec.{leb, ltb, eqb}
-use lib.ListN.{length, getD, drop}
+use lib.ListN.{length, getD, drop, replicate}
 use Rattle.refusal.specs.Answer.{Rule, _unless_, _telling_, accepted}
 use Rattle.refusal.specs.Exactly.{listedAbove, AsRuled, AsListed}
 use Rattle.refusal.proofs.Exactly.{as-ruled, as-listed}
@@ -23,6 +23,8 @@ use Rattle.bank.proofs.Rules.{changes-listed, questions-listed}
 use Rattle.nibbles.specs.Words.{bankOf, wordOf, goodWidth, validWord, clearedWord}
 use Rattle.permuter.specs.Words.{wordRules, changed, asked, madeSorted, madeEmpty}
 use Rattle.permuter.proofs.History as words
+use Rattle.wide_bytes.specs.Wide as wide
+use Rattle.wide_bank.specs.Wides as wides
 use Rattle.ikey.specs.Said.{place}
 use Rattle.order.specs.Bytes.{Bytes}
 use Rattle.order.specs.Layer.{classAt}
@@ -84,6 +86,36 @@ sorted-words w n = as-ruled tt
 pub empty-words : (w : ℕ) → AsRuled ((1 unless goodWidth w) ∷ []) (wordOf (sorted w 0) ∷ []) [] (madeEmpty w)
 unfolding madeEmptyIn listedAbove
 empty-words w = as-ruled tt
+
+-- ---- wide banks: 25 bytes, widths 16 to 24 (A6)
+
+-- Calls that hand a wide bank back (from_bytes, insert_from_back, insert_first_free, remove, remove_to_back, remove_slot, exchange,
+-- rotate): 1 unless the width is 16 to 24, 2 for the bank, a byte past position W-1 that is not 0 among it, then what the call needs, by
+-- the same rules as for a word (`changeRules`). Refused, the bank comes back byte for byte.
+pub wide-changes : (w : ℕ) (bank : List ℕ) (c : Change)
+    → AsRuled (wides.wideRules w bank (changeRules c (wide.bankOf w bank)))
+    (wide.bytesOf (after c (wide.bankOf w bank)) ++ handedOut c (wide.bankOf w bank)) bank (wides.changed w bank c)
+unfolding changedIn listedAbove
+wide-changes w bank c = as-ruled (changes-listed c (wide.bankOf w bank))
+
+-- Calls that tell a number of a wide bank (size, get, back): 1, 2, then 4. Refused, the caller has the bank as it was.
+pub wide-questions : (w : ℕ) (bank : List ℕ) (q : Question)
+    → AsRuled (wides.wideRules w bank (questionRules q (wide.bankOf w bank))) (told q (wide.bankOf w bank) ∷ []) bank
+    (wides.asked w bank q)
+unfolding askedIn listedAbove
+wide-questions w bank q = as-ruled (questions-listed q (wide.bankOf w bank))
+
+-- Wide banks made anew have none to hand back, and 25 zeros stand there: 1, and `make_sorted` 4.
+pub sorted-wides : (w n : ℕ)
+    → AsRuled ((1 unless wide.goodWidth w) ∷ (4 unless leb n w) ∷ []) (wide.bytesOf (sorted w n)) (replicate 25 0) (wides.madeSorted w n)
+unfolding madeSortedIn listedAbove
+sorted-wides w n = as-ruled tt
+
+-- `empty` has 1 alone.
+pub empty-wides : (w : ℕ)
+    → AsRuled ((1 unless wide.goodWidth w) ∷ []) (wide.bytesOf (sorted w 0)) (replicate 25 0) (wides.madeEmpty w)
+unfolding madeEmptyIn listedAbove
+empty-wides w = as-ruled tt
 
 -- ---- keys: in `Demand1Keys.antt`
 

@@ -11,7 +11,8 @@
 -- 4(W+1) up are 0), whatever it is. What is due are then its free slots from the back forward, and the released ones; where `empty` or
 -- `make_sorted` gave the word, those are n, n+1, .., W-1 (`free-when-sorted`), so that the statements on sorted words and on the empty
 -- one, which stand as they stood, are its cases. Withdrawal gives back the cleared word bit for bit, which is the word as given where
--- nothing strayed. The argument is made in `bank` over whatever holds a bank, and read off for words.
+-- nothing strayed. The argument is made in `bank` over whatever holds a bank, and read off for words here, and for wide banks in
+-- `Demand3Wide.antt` (A6).
 use Prim.Native.Nat.{ℕ, _-_, _<_}
 use mathlib.Core.Path.{_≡_}
 use mathlib.Core.List.{List, [], _∷_, _++_, map}

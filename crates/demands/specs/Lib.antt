@@ -3,6 +3,7 @@ pub mod Demand1Keys
 pub mod Meaning
 pub mod Demand2
 pub mod Demand3
+pub mod Demand3Wide
 pub mod Card
 pub mod Examples
 pub mod Lines

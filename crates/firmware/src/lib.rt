@@ -6,3 +6,4 @@ mod keys;
 mod labels;
 mod nodes;
 mod slots;
+mod wide;

@@ -3,51 +3,21 @@
 use mathlib.Core.Path.{_≡_, sym, ap, ap₂, _∙_, subst}
 use mathlib.Core.List.{List, [], _∷_, _++_}
 use Prim.Native.Nat.{ℕ, zero, suc, _+_, _-_, _*_, _/_, _%_, _^_, _≤_, _<_, min, max}
-use native.Mathlib.Nat.{zero-div, div-self, div-one, div-eq-of-lt, div-div-eq-div-mul, mod-lt, mod-eq-of-lt, zero-lt-suc, one-mul, mul-comm}
+use native.Mathlib.Nat.{zero-div, div-one, div-div-eq-div-mul, mod-lt, mod-eq-of-lt, zero-lt-suc, one-mul, mul-comm}
 use native.Mathlib.Omega.{arith}
 use native.Mathlib.Decide.{ℕ-discrete, decLt}
 use native.Mathlib.Numerals.{add-one}
 use lib.ListN.{length, take-append-drop}
-use lib.Bits.{bitAnd, bitOr, and-mask, or-step, or-shr, or-lt}
-use lib.Pow.{pow-add, pow-pos, pow-mono, pow-lt, shl-shr, shr-shr, field, mod-mod-pow}
+use lib.Bits.{bitAnd, bitOr, and-mask, or-lt}
+use lib.Pow.{pow-pos, pow-mono, pow-lt, shl-shr, shr-shr, field, mod-mod-pow}
 use lib.Dec.{T, eqb, ltb, eqb→eq, leb→le, le→leb}
 use Rattle.bank.specs.Lists.{count, eachOnce, allBelow}
 use Rattle.bank.proofs.Tests.{at, same-test}
 use Rattle.bank.proofs.Counts.{count-none, count-same, count-other, count-append, once, once-if-all}
+use Rattle.bank.proofs.Marks.{bit, bit-or, bit-same, bit-other, ones, marked-one, more-marks}
 use Rattle.nibbles.specs.Nibbles.{nibbles}
 use Rattle.nibbles.proofs.Nibbles.{pow-step, take-nibbles, drop-nibbles}
 use Rattle.nibbles.proofs.Words.{below-if-none}
-
-abbrev bit : ℕ → ℕ → ℕ
-bit x s = x / 2 ^ s % 2
-
-bit-or : (x y s : ℕ) → bit (bitOr x y) s ≡ max (bit x s) (bit y s)
-bit-or x y s = ap (λ (z : ℕ). z % 2) (or-shr x y s) ∙ omega (arith, or-step (x / 2 ^ s) (y / 2 ^ s))
-
-bit-same : (p : ℕ) → bit (2 ^ p) p ≡ 1
-bit-same p = ap (λ (z : ℕ). z % 2) (div-self (pow-pos p))
-
-bit-other : (p s : ℕ) → (p ≡ s → ⊥) → bit (2 ^ p) s ≡ 0
-bit-other p s h =
-    elim (decLt p s) [
-      | yes l ↦ ap (λ (z : ℕ). z % 2) (div-eq-of-lt (pow-lt l))
-      | no l ↦
-          let e : 2 ^ p ≡ 2 ^ (p - s - 1 + 1) * 2 ^ s = ap (λ (k : ℕ). 2 ^ k) (let z : p ≡ p - s - 1 + 1 + s = omega arith in z)
-          ∙ pow-add 2 (p - s - 1 + 1) s in
-          let d : 2 ^ (p - s - 1 + 1) ≡ 2 ^ (p - s - 1) * 2 = pow-add 2 (p - s - 1) 1 in
-          ap (λ (z : ℕ). z / 2 ^ s % 2) e ∙ ap (λ (z : ℕ). z % 2) (shl-shr (2 ^ (p - s - 1 + 1)) s) ∙ omega arith
-    ]
-
--- a number of k bits that are all set
-ones : (k x : ℕ) → x < 2 ^ k → ((s : ℕ) → s < k → bit x s ≡ 1) → x + 1 ≡ 2 ^ k
-ones zero x l h = omega arith
-ones (suc k) x l h =
-    let p : 2 ^ suc k ≡ 2 ^ k * 2 = ap (λ (j : ℕ). 2 ^ j) (sym (add-one k)) ∙ pow-add 2 k 1 in
-    let low : x % 2 ≡ 1 = ap (λ (z : ℕ). z % 2) (sym (div-one x)) ∙ h 0 (omega arith) in
-    let high : x / 2 + 1 ≡ 2 ^ k = ones k (x / 2) (omega arith)
-    (λ s m. ap (λ (z : ℕ). z % 2) (shr-shr x 1 s ∙ ap (λ (j : ℕ). x / 2 ^ j) (let z : 1 + s ≡ suc s = omega arith in z))
-    ∙ h (suc s) (omega arith)) in
-    omega arith
 
 -- a bit of what is shifted down, and of the lower sixteen bits
 bit-shr : (x k s : ℕ) → bit (x / 2 ^ k) s ≡ bit x (k + s)
@@ -58,14 +28,6 @@ bit-low x s h =
     ap (λ (n : ℕ). x % 2 ^ n / 2 ^ s % 2) (let e : 16 ≡ 15 - s + 1 + s = omega arith in e)
     ∙ ap (λ (z : ℕ). z % 2) (field x (15 - s + 1) s)
     ∙ mod-mod-pow (x / 2 ^ s) (15 - s) 1
-
--- the mark of one number
-marked-one : (p s : ℕ) → bit (2 ^ p) s ≡ count s (p ∷ [])
-marked-one p s =
-    elim (ℕ-discrete p s) [
-      | yes e ↦ subst (λ (x : ℕ). bit (2 ^ p) x ≡ count x (p ∷ [])) e (bit-same p ∙ sym (count-same p [] ∙ ap suc (count-none p)))
-      | no e ↦ bit-other p s e ∙ sym (count-other p s [] e ∙ count-none s)
-    ]
 
 -- ---- the marks of a list, in two copies
 
@@ -80,7 +42,9 @@ over-or x y s = omega (arith, bit-or x y s, bit-or x y (16 + s))
 over-one : (p s : ℕ) → p < 32 → s < 16 → over (2 ^ p) s ≡ count s (p % 16 ∷ [])
 over-one p s h l =
     elim (ℕ-discrete (p % 16) s) [
-      | yes e ↦ subst (λ (x : ℕ). over (2 ^ p) x ≡ count x (p % 16 ∷ [])) e (marks-it ∙ sym (count-same (p % 16) [] ∙ ap suc (count-none (p % 16))))
+      | yes e ↦
+          subst (λ (x : ℕ). over (2 ^ p) x ≡ count x (p % 16 ∷ [])) e
+          (marks-it ∙ sym (count-same (p % 16) [] ∙ ap suc (count-none (p % 16))))
       | no e ↦ omega (
         arith,
         bit-other p s (λ d. e (omega arith)),
@@ -106,9 +70,6 @@ pub record Marked (marks : ℕ) (ps : List ℕ) : Type 0 where
 
 pub marked-none : Marked 0 []
 marked-none = record { set = λ s h. rw (zero-div, zero-div, count-none) }
-
-more-marks : (a b c d : ℕ) → a ≡ min 1 c → b ≡ d → d < 2 → max a b ≡ min 1 (c + d)
-more-marks a b c d e f h = omega arith
 
 pub marked-more : {marks : ℕ} {ps : List ℕ} (p : ℕ) → p < 32 → Marked marks ps
     → Marked (bitOr marks ((1 * 2 ^ p) % 2 ^ 32)) (ps ++ p % 16 ∷ [])
@@ -158,7 +119,8 @@ marked-all {marks} ps l m f = same-test (ltb 0xFFFEFFFF (bitOr marks ((marks * 2
 
     there : T (ltb 0xFFFEFFFF (bitOr marks ((marks * 2 ^ 16) % 2 ^ 32))) → T (eachOnce ps)
     there t =
-        let whole : bitOr marks ((marks * 2 ^ 16) % 2 ^ 32) / 2 ^ 16 ≡ 0xFFFF = omega (arith, small, leb→le 0xFFFF0000 (bitOr marks ((marks * 2 ^ 16) % 2 ^ 32)) t) in
+        let whole : bitOr marks ((marks * 2 ^ 16) % 2 ^ 32) / 2 ^ 16 ≡ 0xFFFF
+        = omega (arith, small, leb→le 0xFFFF0000 (bitOr marks ((marks * 2 ^ 16) % 2 ^ 32)) t) in
         once-if-all ps (λ s h.
         let full : bit (bitOr marks ((marks * 2 ^ 16) % 2 ^ 32) / 2 ^ 16) s ≡ 1 = ap (λ (x : ℕ). bit x s) whole
         ∙ eqb→eq (bit 0xFFFF s) 1 (at 16 (λ k. eqb (bit 0xFFFF k) 1) all-set s (omega arith)) in
@@ -167,7 +129,8 @@ marked-all {marks} ps l m f = same-test (ltb 0xFFFEFFFF (bitOr marks ((marks * 2
     back : T (eachOnce ps) → T (ltb 0xFFFEFFFF (bitOr marks ((marks * 2 ^ 16) % 2 ^ 32)))
     back t =
         let whole : bitOr marks ((marks * 2 ^ 16) % 2 ^ 32) / 2 ^ 16 + 1 ≡ 2 ^ 16
-        = ones 16 (bitOr marks ((marks * 2 ^ 16) % 2 ^ 32) / 2 ^ 16) (omega (arith, small)) (λ s h. bits s h ∙ omega (arith, once ps t s (omega arith))) in
+        = ones 16 (bitOr marks ((marks * 2 ^ 16) % 2 ^ 32) / 2 ^ 16) (omega (arith, small))
+        (λ s h. bits s h ∙ omega (arith, once ps t s (omega arith))) in
         le→leb 0xFFFF0000 (bitOr marks ((marks * 2 ^ 16) % 2 ^ 32)) (omega (arith, whole))
 
 -- ---- the nibbles of a number, one after the other

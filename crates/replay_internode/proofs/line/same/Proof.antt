@@ -4,7 +4,7 @@ use mathlib.Core.Path.{_≡_}
 use Prim.Native.Nat.{_-_, _≤_}
 use native.Mathlib.Omega.{arith}
 use lib.ListN.{length}
-use Rattle.replay_internode.proofs.Agree.{Agree, agree-none, agree-more, agree-all, not-true}
+use Rattle.hex.proofs.Agree.{Agree, agree-none, agree-more, agree-all, not-true}
 use Rattle.replay_internode.proofs.line.same.Statement.{statement}
 use Rattle.replay_internode.proofs.line.same.Tie as tie
 

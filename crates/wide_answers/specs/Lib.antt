@@ -1,0 +1,2 @@
+pub mod Wides
+pub mod Answers

@@ -1,0 +1,3 @@
+pub mod Wides
+pub mod Answers
+pub mod History
