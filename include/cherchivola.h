@@ -247,7 +247,8 @@ uint64_t cherchivola_put(uint64_t *nodes, size_t node_words, uint64_t *cells, si
                          const uint8_t *key, size_t key_length, uint64_t frame, uint64_t *lacking);
 
 /*
- * Takes a key out; its cell is free again. Refused: 7, 10, 12; then memory is as it was. (cherchivola_remove is the slot word's.)
+ * Takes a key out; its cell is free again, and so are the nodes of the layers below the first that this leaves empty. Refused: 7, 10, 12;
+ * then memory is as it was. (cherchivola_remove is the slot word's.)
  */
 uint64_t cherchivola_remove_key(uint64_t *nodes, size_t node_words, uint64_t *cells, size_t cell_words, uint8_t *bytes,
                                 size_t byte_count, const uint8_t *key, size_t key_length);

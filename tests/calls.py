@@ -1,5 +1,5 @@
-# Random calls on the plain index, their answers, and a sum of the whole memory after each, in the fixed lines that crate
-# replay_index reads.
+# Random calls on the plain index, and seasons of calls that fill and empty layers, their answers, and a sum of the whole memory after
+# each, in the fixed lines that crate replay_index reads.
 #
 #     python3 calls.py --memories 9 --calls 30 --seed 1 > ../crates/replay_index/stdin
 #
@@ -17,6 +17,7 @@ sys.path.insert(0, os.path.join(os.path.dirname(os.path.abspath(__file__)), "pla
 
 import index
 from memory import Memory
+from seasons import SEASONS
 
 TOP = (1 << 64) - 1
 SIZES = [(1, 1), (2, 20), (3, 20), (5, 40), (20, 40), (34, 6), (40, 128), (64, 128), (255, 255)]
@@ -55,6 +56,11 @@ def put_line(memory, key, frame):
     return line("p", answer.number, frame, answer.lacking or 0, sum_of(memory), key)
 
 
+# A removal, made on the memory, as a line.
+def remove_line(memory, key):
+    return line("d", index.remove(memory, key, audited=True).number, 0, 0, sum_of(memory), key)
+
+
 # A count, made on the memory, as a line.
 def count_line(memory):
     answer = index.count(memory)
@@ -69,7 +75,7 @@ def random_call(rng, memory, kind, growing):
         frame = rng.choice((0, TOP, rng.getrandbits(64)))
         return put_line(memory, key, frame)
     if call == "d":
-        return line("d", index.remove(memory, key, audited=True).number, 0, 0, sum_of(memory), key)
+        return remove_line(memory, key)
     if call == "f":
         answer = index.find(memory, key, audited=True)
         return line("f", answer.number, answer.frame or 0, 0, sum_of(memory), key)
@@ -85,6 +91,16 @@ def long_pair(nodes):
     yield line("c", index.clear(memory).number, 0, 0, sum_of(memory))
     for last in (b"a", b"b"):
         yield put_line(memory, b"k" * 255 + last, 7)
+
+
+# Labels filed and taken out again, season after season, and a count at the end.
+def season_calls(size, calls):
+    memory = Memory(*size)
+    yield line("m", 0, 0, (size[0] << 32) + size[1])
+    yield line("c", index.clear(memory).number, 0, 0, sum_of(memory))
+    for key, frame in calls:
+        yield remove_line(memory, key) if frame is None else put_line(memory, key, frame)
+    yield count_line(memory)
 
 
 # All calls on one memory.
@@ -110,6 +126,9 @@ def main():
             sys.stdout.write(text)
     for nodes in (32, 31):
         for text in long_pair(nodes):
+            sys.stdout.write(text)
+    for _, size, calls in SEASONS:
+        for text in season_calls(size, calls):
             sys.stdout.write(text)
 
 

@@ -109,7 +109,7 @@ def saved_and_loaded(script, entries):
     script.save(len(data))
 
 
-# Layers: keys that share beginnings, and an emptied layer; keys of 0, 8, 9 and 256 bytes; an edge in each field of an entry.
+# Layers: keys that share beginnings, and layers that are emptied; keys of 0, 8, 9 and 256 bytes; an edge in each field of an entry.
 def saved_layers(script):
     stem = bytes(range(1, 41))
     some = [(stem + b"one", 1), (stem + b"two, longer than eight", 2), (stem[:20], 3), (b"", 4), (stem[:8], 5), (stem[:16] + b"x", 6)]

@@ -16,10 +16,9 @@ WIDTH = nodes.WIDTH
 
 Answer = namedtuple("Answer", "number key frame lacking count", defaults=(None, None, None, None))
 
-# Where a key belongs. layer: its layer's number from the top. above: the (leaf, slot) of the link to that
-# layer, or None. path: the internodes on the way down. leaf, position: the entry found or in conflict, or the
-# place for a new one.
-Place = namedtuple("Place", "kind layer above path leaf position")
+# Where a key belongs. links: the links on the way, from the top, each as its leaf, its slot there and the root that it leads to. path: the
+# internodes on the way down in the last layer. leaf, position: the entry found or in conflict, or the place for a new one.
+Place = namedtuple("Place", "kind links path leaf position")
 
 ACCEPTED = Answer(0)
 
@@ -68,7 +67,7 @@ def find(memory, key, audited=False):
     return Answer(0, key, memory.frame(cell_at(memory, place)))
 
 
-# Takes a stored key out; its cell is free again, its leaf stays.
+# Takes a stored key out; its cell is free again, and so are the layers that this empties.
 def remove(memory, key, audited=False):
     refused = refusal_before(memory, key, audited)
     if refused:
@@ -76,9 +75,24 @@ def remove(memory, key, audited=False):
     place = locate(memory, key)
     if place.kind != FOUND:
         return Answer(NOT_STORED)
+    take_out(memory, place)
+    give_back(memory, place.links)
+    return ACCEPTED
+
+
+# Takes an entry out, with its cell.
+def take_out(memory, place):
     memory.zero_cell(cell_at(memory, place))
     nodes.drop_entry(memory, place.leaf, place.position)
-    return ACCEPTED
+
+
+# From the last of these links upward: where the layer below is an empty leaf and nothing else, its node becomes free and the link goes.
+def give_back(memory, links):
+    for leaf, slot, root in reversed(links):
+        if memory.word(root, 0) != LEAF or nodes.entries_of(memory, root):
+            return
+        memory.set_node(root, [])
+        nodes.drop_entry(memory, leaf, nodes.words.in_use(memory.word(leaf, 1)).index(slot))
 
 
 # Gives the count as it stands in the header; only the lent lengths are looked at.
@@ -123,19 +137,20 @@ def descend(memory, root, ikey):
 
 # Goes down, layer by layer, to where a key is or belongs.
 def locate(memory, key):
-    layer, above, root = 0, None, memory.nodes[0]
+    links, root = [], memory.nodes[0]
     while True:
-        wanted = ikey_at(key, layer), class_at(key, layer)
+        wanted = ikey_at(key, len(links)), class_at(key, len(links))
         path, leaf = descend(memory, root, wanted[0])
         entries = nodes.entries_of(memory, leaf)
         position = sum(1 for ikey, kind, _ in entries if rank(ikey, kind) < wanted)
         if position == len(entries) or rank(*entries[position][:2]) != wanted:
-            return Place(ABSENT, layer, above, path, leaf, position)
+            return Place(ABSENT, links, path, leaf, position)
         _, kind, number = entries[position]
         if kind != LINK:
             found = FOUND if memory.key(number) == key else CONFLICT
-            return Place(found, layer, above, path, leaf, position)
-        layer, above, root = layer + 1, (leaf, slot_of(memory, leaf, position)), number
+            return Place(found, links, path, leaf, position)
+        links.append((leaf, slot_of(memory, leaf, position), number))
+        root = number
 
 
 # The slot that holds the entry at a position.
@@ -146,7 +161,7 @@ def slot_of(memory, leaf, position):
 # How many nodes a put at this place takes.
 def nodes_needed(memory, place, key):
     if place.kind == CONFLICT:
-        return shared_layers(key, memory.key(cell_at(memory, place)), place.layer + 1) + 1
+        return shared_layers(key, memory.key(cell_at(memory, place)), len(place.links) + 1) + 1
     if len(nodes.entries_of(memory, place.leaf)) < WIDTH:
         return 0
     full = 0
@@ -169,13 +184,14 @@ def grow_layers(memory, place, key, cell):
     slot = slot_of(memory, place.leaf, place.position)
     ikey, _, other_cell = nodes.entry_at(memory, place.leaf, slot)
     other = memory.key(other_cell)
-    shared = shared_layers(key, other, place.layer + 1)
+    layer = len(place.links) + 1
+    shared = shared_layers(key, other, layer)
     taken = memory.free_nodes()[:shared + 1]
     nodes.set_entry(memory, place.leaf, slot, (ikey, LINK, taken[0]))
     for step in range(shared):
-        link = ikey_at(key, place.layer + 1 + step), LINK, taken[step + 1]
+        link = ikey_at(key, layer + step), LINK, taken[step + 1]
         nodes.write_leaf(memory, taken[step], [link])
-    bottom = place.layer + 1 + shared
+    bottom = layer + shared
     nodes.write_leaf(memory, taken[shared], sorted([
         (ikey_at(key, bottom), class_at(key, bottom), cell),
         (ikey_at(other, bottom), class_at(other, bottom), other_cell)]))
@@ -183,7 +199,8 @@ def grow_layers(memory, place, key, cell):
 
 # Adds an entry to its leaf, which is split if it is full.
 def add_to_leaf(memory, place, key, cell):
-    entry = ikey_at(key, place.layer), class_at(key, place.layer), cell
+    layer = len(place.links)
+    entry = ikey_at(key, layer), class_at(key, layer), cell
     entries = nodes.entries_of(memory, place.leaf)
     if len(entries) < WIDTH:
         nodes.add_entry(memory, place.leaf, place.position, entry)
@@ -218,13 +235,13 @@ def add_to_parents(memory, place, ikey, right):
         nodes.write_internode(memory, right, ikeys[9:], children[9:])
     root = memory.free_nodes()[0]
     nodes.write_internode(memory, root, [ikey], [left, right])
-    set_layer_root(memory, place.above, root)
+    set_layer_root(memory, place.links, root)
 
 
 # Writes a layer's new root into the link above it, or into the header.
-def set_layer_root(memory, above, root):
-    if above is None:
-        memory.nodes[0] = root
-    else:
-        leaf, slot = above
+def set_layer_root(memory, links, root):
+    if links:
+        leaf, slot, _ = links[-1]
         memory.set_word(leaf, nodes.NUMBERS + slot, root)
+    else:
+        memory.nodes[0] = root

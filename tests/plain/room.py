@@ -93,10 +93,19 @@ class Room:
             layer.separators, layer.height, _ = layer.with_entry(entry)
             layer.entries[entry] = key
 
-    # Takes a stored key out; leaves and layers stay.
+    # Takes a stored key out, and each layer below the first that has no entry then and was never split.
     def remove(self, key):
-        layer, number = self.layer_of(key)
-        del layer.entries[ikey_at(key, number), class_at(key, number)]
+        way, number = [self.top], 0
+        while True:
+            below = way[-1].entries.get((ikey_at(key, number), class_at(key, number)))
+            if not isinstance(below, Layer):
+                break
+            way, number = way + [below], number + 1
+        del way[-1].entries[ikey_at(key, number), class_at(key, number)]
+        while number and not way[number].entries and not way[number].separators:
+            number -= 1
+            del way[number].entries[ikey_at(key, number), LONGER]
+            self.free += 1
 
 
 # From a layer on, the ikeys that two keys share while both go on.

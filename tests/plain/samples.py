@@ -1,4 +1,5 @@
-# A few small good memories of one to three layers and more, each made by calls, and one laid out by hand.
+# A few small good memories of one to three layers and more, each made by calls, and one laid out by hand. Where keys were taken out, it was
+# before empty layers were given back, so that some have such layers.
 
 import index
 import nodes
@@ -13,10 +14,13 @@ def fresh(n, c):
     return memory
 
 
-# Makes calls that must all be accepted: (key, frame) puts, (key, None) removes.
+# Makes calls that must all be accepted: (key, frame) puts, (key, None) takes the key out and gives no layer back.
 def run(memory, calls):
     for key, frame in calls:
-        answer = index.remove(memory, key) if frame is None else index.put(memory, key, frame)
+        if frame is None:
+            index.take_out(memory, index.locate(memory, key))
+            continue
+        answer = index.put(memory, key, frame)
         if answer.number:
             raise ValueError("refused %d" % answer.number)
     return memory

@@ -15,6 +15,7 @@ import index
 import internodes
 import layers
 import nodes
+import samples
 import wides
 import words
 from answers import PlainMap, output_for
@@ -24,11 +25,12 @@ from crafted_images import CRAFTED_IMAGES, MANY, TWO
 from image import BLOCK, HELD, Told
 from keys import LINK, class_at, ikey_at
 from listing import listing
-from memory import LEAF, Memory, dump, load
+from memory import INTERNODE, LEAF, Memory, dump, load
 from reach import WANTED, IndexStore, reached_by
 from replay import replayed
 from samples import GOOD, fresh, run
 from scripts import KINDS, script_of
+from seasons import SEASONS
 from spoilt import some_entries, spoilt
 
 # A key fits one entry only, so a cell with two entries always breaks another rule too.
@@ -167,6 +169,37 @@ def check_numbers(scale):
     same(index.cut_of([1] + [2] * 10 + [3] * 5), 11, "cut above ten")
     same(index.cut_of([1] * 3 + [2] * 10 + [3] * 3), 3, "the lower on a tie")
     return "splits, layers, cells, cuts"
+
+
+# The numbers of the puts of a season, and the memory left; with keep=True no layer is given back.
+def season_puts(size, season, keep=False):
+    memory, numbers = fresh(*size), []
+    for key, frame in season:
+        if frame is not None:
+            numbers.append(index.put(memory, key, frame).number)
+        elif not keep:
+            index.remove(memory, key)
+        elif index.find(memory, key).number == 0:
+            index.take_out(memory, index.locate(memory, key))
+        same(broken_rules(memory), set(), "a tree in a season")
+    return numbers, memory
+
+
+# Empty layers are given back: no season gets 14 but the one with a split layer, and each would without. Those that a memory has from before
+# stay until a removal empties their leaf anew.
+def check_seasons(scale):
+    for name, size, season in SEASONS:
+        numbers, memory = season_puts(size, season)
+        same((set(numbers[:-1]), numbers[-1]), ({0}, 14 if name == "split" else 0), name)
+        same(14 in season_puts(size, season, keep=True)[0], True, "14 without giving back, " + name)
+    same([memory.word(node, 0) for node in range(5)], [LEAF, LEAF, LEAF, LEAF, INTERNODE], "a split layer keeps its nodes")
+    memory = samples.split()
+    before = memory.free_nodes()
+    same((index.remove(memory, b"ma").number, memory.free_nodes()), (0, before), "empty layers from before stay")
+    same((index.put(memory, b"layer-04a", 1).number, index.remove(memory, b"layer-04a").number), (0, 0), "one of them is filled again")
+    same(len(memory.free_nodes()), len(before) + 1, "and given back")
+    same(index.find(memory, b"layer-04a").number, 12, "its link is gone")
+    return "%d seasons" % len(SEASONS)
 
 
 # Three levels: 8 ikeys, the ninth up, 7; numbers from the leaf upward, then the root.
@@ -457,8 +490,8 @@ def check_wides(scale):
 
 
 CHECKS = [check_words, check_bank, check_wides, check_keys, check_layers, check_text, check_longest, check_numbers, check_levels,
-          check_shapes, check_refusals, check_crafted, check_calls, check_calls_on_crafted, check_images, check_cards, check_scripts,
-          check_files, check_damage]
+          check_shapes, check_seasons, check_refusals, check_crafted, check_calls, check_calls_on_crafted, check_images, check_cards,
+          check_scripts, check_files, check_damage]
 
 
 # Runs all the checks.

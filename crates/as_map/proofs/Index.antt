@@ -1,5 +1,5 @@
 -- The index is a sorted map: what its caller hears after a clear, in the statements that an auditor reads.
-use mathlib.Core.Path.{_≡_, sym, ap, _∙_, subst}
+use mathlib.Core.Path.{_≡_, refl, sym, ap, _∙_, subst}
 use mathlib.Core.Logic.{_≢_}
 use mathlib.Core.List.{List, []}
 use mathlib.Core.Option.{some}
@@ -15,9 +15,10 @@ use Rattle.forest.specs.IsTree.{Layers, IsTree, listing}
 use Rattle.forest.proofs.Accepts.{tree-accepted}
 use Rattle.forest.proofs.One.{tree-one}
 use Rattle.places.proofs.Found.{listing-rises}
-use Rattle.as_map.specs.Calls.{Call, kth, OfBytes, entry, refusal, refused, heard, leftAfter, roomFor, rooms, answers}
+use Rattle.as_map.specs.Calls.{Call, kth, OfBytes, entry, refusal, refused, heard, leftAfter, leftAfterBefore}
+use Rattle.as_map.specs.Calls.{roomFor, rooms, answers}
 use Rattle.as_map.specs.Map.{whether, mapSays, mapAnswers, mapAfter}
-use Rattle.as_map.proofs.Leaves.{Lists, cleared-lists}
+use Rattle.as_map.proofs.Leaves.{Lists, cleared-lists, all-left-before}
 use Rattle.as_map.proofs.After.{one-heard, all-heard, all-left, all-not-10}
 
 -- ---- what is heard
@@ -28,7 +29,29 @@ pub index-is-map : (n c : ℕ) → 1 ≤ n → n ≤ 255 → 1 ≤ c → c ≤ 2
 index-is-map n c n-low n-high c-low c-high of-bytes =
     all-heard (emptied n c) [] (cleared-lists n c n-low n-high c-low c-high) of-bytes
 
-module _ (n c : ℕ) (n-low : 1 ≤ n) (n-high : n ≤ 255) (c-low : 1 ≤ c) (c-high : c ≤ 255) {calls : List Call} (of-bytes : All OfBytes calls) where
+-- ---- memory from before empty layers were given back
+
+module _ (n c : ℕ) (n-low : 1 ≤ n) (n-high : n ≤ 255) (c-low : 1 ≤ c) (c-high : c ≤ 255) {old : List Call} (then : All OfBytes old) where
+  -- it lists what it listed then
+  before-lists : (ys : Map) × Lists (leftAfterBefore (emptied n c) old) ys
+  before-lists = all-left-before (emptied n c) [] (cleared-lists n c n-low n-high c-low c-high) then
+
+  -- it is a tree
+  pub before-tree : T (isTree (leftAfterBefore (emptied n c) old))
+  before-tree = let (v, t, b, e) = before-lists .1 in tree-accepted (leftAfterBefore (emptied n c) old) v t
+
+  -- and calls now hear what the map of its listing says
+  pub before-is-map : (v : Layers) → IsTree (leftAfterBefore (emptied n c) old) v → {calls : List Call} → All OfBytes calls
+      → answers (leftAfterBefore (emptied n c) old) calls
+      ≡ mapAnswers (rooms (leftAfterBefore (emptied n c) old) calls) (listing (leftAfterBefore (emptied n c) old) v) calls
+  before-is-map v t of-bytes =
+      let (w, u, b, e) = before-lists .1 in
+      all-heard (leftAfterBefore (emptied n c) old) (listing (leftAfterBefore (emptied n c) old) v) (v, t, b, refl) of-bytes
+
+-- ---- after a clear
+
+module _ (n c : ℕ) (n-low : 1 ≤ n) (n-high : n ≤ 255) (c-low : 1 ≤ c) (c-high : c ≤ 255) {calls : List Call}
+    (of-bytes : All OfBytes calls) where
   -- memory after these calls, and the map after them
   abbrev after : Memory
   after = leftAfter (emptied n c) calls
@@ -52,7 +75,8 @@ module _ (n c : ℕ) (n-low : 1 ≤ n) (n-high : n ≤ 255) (c-low : 1 ≤ c) (c
   -- no answer is refusal 10
   pub never-10 : All (λ h. (told : List ℕ) → h ≢ refusal 10 told) (answers (emptied n c) calls)
   never-10 =
-      subst (All (λ h. (told : List ℕ) → h ≢ refusal 10 told)) (sym (index-is-map n c n-low n-high c-low c-high of-bytes)) (all-not-10 (rooms (emptied n c) calls) [] calls)
+      subst (All (λ h. (told : List ℕ) → h ≢ refusal 10 told)) (sym (index-is-map n c n-low n-high c-low c-high of-bytes))
+      (all-not-10 (rooms (emptied n c) calls) [] calls)
 
   -- ---- the listing
 

@@ -1,5 +1,5 @@
 -- What each call leaves of memory that is a tree: a tree that lists what the sorted map leaves. A refused call leaves memory as it was.
-use mathlib.Core.Path.{_≡_, refl, sym, ap, subst}
+use mathlib.Core.Path.{_≡_, refl, sym, ap, _∙_, subst}
 use mathlib.Core.Bool.{Bool, true, false, cond, not, _&&_}
 use mathlib.Core.List.{List, [], _∷_}
 use mathlib.Core.Option.{Option, none, some}
@@ -11,17 +11,19 @@ use borrow.Author.Tests.{leb-true}
 use Rattle.bank.proofs.Tests.{is-true}
 use Rattle.refusal.specs.Answer.{_unless_, _telling_, answered}
 use Rattle.order.specs.Bytes.{Bytes, bytewise}
-use Rattle.order.specs.Map.{Map, pick, lookup, alter, insert, delete}
+use Rattle.order.specs.Map.{Map, All, a[], _a∷_, pick, lookup, alter, insert, delete}
 use Rattle.arena.specs.Memory.{Memory, nodeCount, cellCount, rightLengths, emptied, cleared}
 use Rattle.arena.proofs.Measures.{right-means}
 use Rattle.forest.specs.IsTree.{Layers, IsTree, listing}
 use Rattle.forest.proofs.Cleared.{cleared-tree}
-use Rattle.model.specs.Calls.{countOf, place, stored, without, with, withCount, hasCell, hasNodes, hasRoom, lacking, removed, putDone}
-use Rattle.model.specs.Calls.{whenAccepted}
+use Rattle.model.specs.GivenBack.{allGivenBack}
+use Rattle.model.specs.Calls.{countOf, stored, with, withCount, hasCell, hasNodes, hasRoom, lacking, putDone}
+use Rattle.model.specs.Calls.{whenAccepted, removeSaid, withoutEntry, removed}
 use Rattle.places.proofs.Found.{isSome, stored-lookup}
 use Rattle.index_counted.proofs.Kept.{put-counted, remove-counted}
+use Rattle.index_given_back.proofs.All.{all-back}
 use Rattle.places.proofs.FreedCells.{bytes-zeros}
-use Rattle.as_map.specs.Calls.{Call, clear, put, find, remove, kth, count, OfBytes, left, roomFor}
+use Rattle.as_map.specs.Calls.{Call, clear, put, find, remove, kth, count, OfBytes, left, leftBefore, leftAfterBefore, roomFor}
 use Rattle.as_map.specs.Map.{whether, mapLeft}
 use Rattle.as_map.proofs.Says.{accepted}
 
@@ -56,7 +58,8 @@ unfolding lookup alter
 delete-missing key [] e = refl
 delete-missing key (x ∷ xs) e = go (bytewise key (x .0)) e (delete-missing key xs)
   where
-    go : (o : Ordering) → pick o none (some (x .1)) (lookup bytewise key xs) ≡ none → (lookup bytewise key xs ≡ none → delete bytewise key xs ≡ xs)
+    go : (o : Ordering) → pick o none (some (x .1)) (lookup bytewise key xs) ≡ none
+        → (lookup bytewise key xs ≡ none → delete bytewise key xs ≡ xs)
         → pick o (x ∷ xs) xs (x ∷ delete bytewise key xs) ≡ x ∷ xs
     go Ordering·lt d rest = refl
     go Ordering·eq d rest = let z : _≡_ {A = ℕ} 0 1 = cc in absurd (omega arith)
@@ -89,28 +92,41 @@ module _ (m : Memory) (v : Layers) (t : IsTree m v) (bytes : Bytes (m .bytes)) w
   as-it-was = (v, t, bytes, refl)
 
   module _ (key : List ℕ) (b : Bytes key) where
-    -- memory without the key, and one less counted
-    abbrev less : Memory
-    less = withCount (without m (place m key)) (countOf m - 1)
+    -- a removal that leaves this memory, which lists the rest
+    module _ (less : Memory) (rest : stored m key ≡ true → Lists less (delete bytewise key (listing m v))) where
+      less-left : Lists (whenAccepted (removeSaid m key) less m) (mapLeft (roomFor m (remove key)) (listing m v) (remove key))
+      less-left =
+          rw (accepted m v t bytes, remove-left (leb (length key) 256) (stored m key) less m)
+          (go (leb (length key) 256) (stored m key) (lookup bytewise key (listing m v)) (stored-lookup m v (t .forest) bytes key b) rest
+          (delete-missing key (listing m v)))
+        where
+          go : (short there : Bool) (found : Option ℕ) → there ≡ isSome found
+              → (there ≡ true → Lists less (delete bytewise key (listing m v)))
+              → (found ≡ none → delete bytewise key (listing m v) ≡ listing m v)
+              → Lists (cond short (cond there less m) m) (cond short (delete bytewise key (listing m v)) (listing m v))
+          go false there found e rest same = as-it-was
+          go true true found e rest same = rest refl
+          go true false none e rest same = (v, t, bytes, sym (same refl))
+          go true false (some x) e rest same = let z : _≡_ {A = ℕ} 0 1 = cc in absurd (omega arith)
 
-    its-rest : stored m key ≡ true → Lists less (delete bytewise key (listing m v))
-    its-rest e = let ((w, u, l), c) = remove-counted m v t bytes key b e in (w, u, c, l)
+    -- without its entry
+    entry-gone : stored m key ≡ true → Lists (withoutEntry m key) (delete bytewise key (listing m v))
+    entry-gone e = let ((w, u, l), c) = remove-counted m v t bytes key b e in (w, u, c, l)
+
+    -- and without the layers that this leaves empty
+    layers-gone : stored m key ≡ true → Lists (allGivenBack 31 (withoutEntry m key) key) (delete bytewise key (listing m v))
+    layers-gone e =
+        let (w, u, c, l) = entry-gone e in
+        let back = all-back 31 (withoutEntry m key) w u c key b in
+        (back .tree, back .is-tree, subst Bytes (sym (back .same-bytes)) c, back .same-listing ∙ l)
 
     remove-leaves : Lists (left m (remove key)) (mapLeft (roomFor m (remove key)) (listing m v) (remove key))
     unfolding removed
-    remove-leaves =
-        rw (accepted m v t bytes, remove-left (leb (length key) 256) (stored m key) less m)
-        (go (leb (length key) 256) (stored m key) (lookup bytewise key (listing m v)) (stored-lookup m v (t .forest) bytes key b) (λ e. its-rest e)
-        (delete-missing key (listing m v)))
-      where
-        go : (short there : Bool) (found : Option ℕ) → there ≡ isSome found
-            → (there ≡ true → Lists less (delete bytewise key (listing m v)))
-            → (found ≡ none → delete bytewise key (listing m v) ≡ listing m v)
-            → Lists (cond short (cond there less m) m) (cond short (delete bytewise key (listing m v)) (listing m v))
-        go false there found e rest same = as-it-was
-        go true true found e rest same = rest refl
-        go true false none e rest same = (v, t, bytes, sym (same refl))
-        go true false (some x) e rest same = let z : _≡_ {A = ℕ} 0 1 = cc in absurd (omega arith)
+    remove-leaves = less-left (allGivenBack 31 (withoutEntry m key) key) layers-gone
+
+    remove-left-before : Lists (leftBefore m (remove key)) (mapLeft (roomFor m (remove key)) (listing m v) (remove key))
+    unfolding removed
+    remove-left-before = less-left (withoutEntry m key) entry-gone
 
     module _ (x : ℕ) where
       -- memory with the key, and one more counted
@@ -128,7 +144,8 @@ module _ (m : Memory) (v : Layers) (t : IsTree m v) (bytes : Bytes (m .bytes)) w
             accepted m v t bytes,
             put-left (leb (length key) 256) (stored m key) (hasCell m) (hasNodes m key) (lacking m key) more m,
           )
-          (go (leb (length key) 256) (stored m key) (hasRoom m key) (lookup bytewise key (listing m v)) (stored-lookup m v (t .forest) bytes key b) its-more)
+          (go (leb (length key) 256) (stored m key) (hasRoom m key) (lookup bytewise key (listing m v))
+          (stored-lookup m v (t .forest) bytes key b) its-more)
         where
           go : (short there room : Bool) (found : Option ℕ) → there ≡ isSome found
               → (short ≡ true → there ≡ false → room ≡ true → Lists more (insert bytewise key x (listing m v)))
@@ -149,3 +166,19 @@ module _ (m : Memory) (v : Layers) (t : IsTree m v) (bytes : Bytes (m .bytes)) w
   leaves (remove key) b = remove-leaves key b
   leaves (kth k) b = as-it-was
   leaves count b = as-it-was
+
+  -- and so it did before empty layers were given back
+  pub leaves-before : (call : Call) → OfBytes call → Lists (leftBefore m call) (mapLeft (roomFor m call) (listing m v) call)
+  leaves-before clear b = leaves clear b
+  leaves-before (put key x) b = leaves (put key x) b
+  leaves-before (find key) b = as-it-was
+  leaves-before (remove key) b = remove-left-before key b
+  leaves-before (kth k) b = as-it-was
+  leaves-before count b = as-it-was
+
+-- any calls from before leave a tree
+pub all-left-before : (m : Memory) (xs : Map) → Lists m xs → {calls : List Call} → All OfBytes calls
+    → (ys : Map) × Lists (leftAfterBefore m calls) ys
+all-left-before m xs l a[] = (xs, l)
+all-left-before m xs (v, t, bytes, e) (_a∷_ {x = call} b bs) =
+    all-left-before (leftBefore m call) (mapLeft (roomFor m call) (listing m v) call) (leaves-before m v t bytes call b) bs

@@ -7,20 +7,24 @@ use mathlib.Core.Option.{Option, none, some}
 use Prim.Native.Nat.{ℕ, suc, _+_, _-_, _*_, _≤_, _<_}
 use native.Mathlib.Omega.{arith}
 use lib.Dec.{leb}
-use lib.ListN.{length, getD, drop}
+use lib.ListN.{length, getD, drop, length-set}
 use borrow.Author.Tests.{leb-true, leb-false, le-leb, lt-leb}
 use Rattle.bank.proofs.Tests.{is-true}
 use Rattle.refusal.specs.Answer.{_unless_, _telling_, answered}
 use Rattle.order.specs.Bytes.{Bytes, bytewise}
 use Rattle.order.specs.Map.{lookup}
 use Rattle.arena.specs.Free.{freeNodes, freeCells}
-use Rattle.arena.specs.Memory.{Memory, emptied}
+use Rattle.arena.specs.Memory.{Memory, nodeCount, emptied}
 use Rattle.arena.proofs.Clears.{emptied-cells}
 use Rattle.forest.specs.Walk.{isTree}
 use Rattle.forest.specs.IsTree.{Layers, IsTree, listing}
 use Rattle.forest.proofs.Accepts.{tree-accepted}
 use Rattle.forest.proofs.Cleared.{nothing, nothing-is, cells-lent}
-use Rattle.model.specs.Calls.{countOf, place, without}
+use Rattle.model.specs.declared.Met.{Met}
+use Rattle.model.specs.declared.Met.the-variants.{Stored, Conflict, Missing}
+use Rattle.model.specs.Leaves.{entryPut, entryTaken}
+use Rattle.model.specs.GivenBack.{toGiveBack, allGivenBack}
+use Rattle.model.specs.Calls.{countOf, place, without, withoutEntry}
 use Rattle.model.specs.Calls.{nodesOf, cellsOf, stored, needed, hasCell, hasNodes, hasRoom, lacking, with, putDone, removed}
 use Rattle.places.proofs.Found.{isSome, stored-lookup}
 use Rattle.places.proofs.FreedCells.{bytes-zeros}
@@ -28,7 +32,13 @@ use Rattle.places.proofs.Removed.{removed-frees}
 use Rattle.puts.specs.Needed.{leading, fullUpward, neededNodes}
 use Rattle.puts.proofs.Needed.{needed-as-said}
 use Rattle.puts.proofs.Puts as puts
+use Rattle.trees.specs.FreeNumbers.{timesIn}
 use Rattle.index_counted.proofs.Set.{free-kept}
+use Rattle.index_counted.proofs.Kept.{remove-counted}
+use Rattle.index_given_back.specs.GaveBack.{nodesBack}
+use Rattle.index_given_back.specs.Emptied.{emptiedLayers}
+use Rattle.index_given_back.proofs.Emptied.{back-exactly}
+use Rattle.index_given_back.proofs.All.{all-back, none-left}
 use Rattle.as_map.specs.Calls.{put, remove, Heard, done, frame, entry, counted, refusal, refused, heardOf, heard, left}
 use Rattle.as_map.specs.Calls.{cellFree, nodesEnough, roomFor, NoCell, FewNodes, Took, Freed}
 use Rattle.as_map.proofs.Says.{says}
@@ -104,6 +114,13 @@ remove-only true true true e = (refl, refl, refl)
 remove-only true true false e = absurd (other e (λ z. omega arith))
 remove-only true false there e = absurd (other e (λ z. omega arith))
 remove-only false tree there e = absurd (other e (λ z. omega arith))
+
+-- an entry less changes no length
+without-long : (m : Memory) (o : Met) → length (without m o .nodes) ≡ length (m .nodes)
+unfolding entryTaken entryPut
+without-long m (Stored lf p c) = rw (length-set, length-set, length-set, length-set) refl
+without-long m (Conflict lf p c links) = refl
+without-long m (Missing holder root links) = refl
 
 -- ---- where memory is a tree
 
@@ -188,22 +205,45 @@ module _ (m : Memory) (v : Layers) (t : IsTree m v) (bytes : Bytes (m .bytes)) (
           key-written = refl;
         })
 
-  -- an accepted removal frees the key's cell and nothing else
-  pub remove-freed : heard m (remove key) ≡ done → (c : ℕ) × Freed m key c (left m (remove key))
+  -- an accepted removal frees the key's cell, and the nodes of the layers that are empty without its entry
+  pub remove-freed : heard m (remove key) ≡ done
+      → (c : ℕ) × (u : Layers) × IsTree (withoutEntry m key) u × Freed m key c (emptiedLayers u key) (left m (remove key))
   unfolding removed
   remove-freed e =
       let (short, good, there) = remove-only (leb (length key) 256) (isTree m) (stored m key) e in
       let (c, f) = removed-frees m v (t .forest) bytes key b there in
+      let ((w, u, l), by) = remove-counted m v t bytes key b there in
+      let back = all-back 31 (withoutEntry m key) w u by key b in
+      let as-many : nodesOf (withoutEntry m key) ≡ nodesOf m =
+      ap nodeCount (length-set (without m (place m key) .nodes) 1 (countOf m - 1) ∙ without-long m (place m key)) in
       rw (short, good, there) (
         c,
+        w,
+        u,
         record {
           in-use = f .1;
           its-key = f .0;
-          cell-freed = f .2;
-          key-freed = f .3;
-          nodes-kept = free-kept (without m (place m key) .nodes) (countOf m - 1) 0 (nodesOf m) ∙ f .4;
+          cell-freed = back .same-cells ∙ f .2;
+          key-freed = back .same-bytes ∙ f .3;
+          nodes-freed = λ n. omega (
+            arith,
+            subst (λ (i : ℕ). timesIn (freeNodes (allGivenBack 31 (withoutEntry m key) key .nodes) i) n
+                ≡ timesIn (freeNodes (withoutEntry m key .nodes) i) n + timesIn (nodesBack 31 (withoutEntry m key) key) n)
+                as-many (back .freed n),
+            ap (λ (ns : List ℕ). timesIn ns n) (back-exactly (withoutEntry m key) w u by key b),
+            ap (λ (fs : List ℕ). timesIn fs n) (free-kept (without m (place m key) .nodes) (countOf m - 1) 0 (nodesOf m) ∙ f .4),
+          );
         },
       )
+
+  -- and leaves none of them on the key's way
+  pub remove-none-left : heard m (remove key) ≡ done
+      → toGiveBack (left m (remove key) .nodes) key (place (left m (remove key)) key) ≡ false
+  unfolding removed
+  remove-none-left e =
+      let (short, good, there) = remove-only (leb (length key) 256) (isTree m) (stored m key) e in
+      let ((w, u, l), by) = remove-counted m v t bytes key b there in
+      rw (short, good, there) (none-left (withoutEntry m key) w u by key b)
 
 -- ---- the first put after a clear
 

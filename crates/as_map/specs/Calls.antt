@@ -14,7 +14,8 @@ use Rattle.arena.specs.Layout.{keyStart, markAt, keyAt, freedCell, freedKey, pu
 use Rattle.arena.specs.Free.{freeNodes, freeCells}
 use Rattle.arena.specs.Memory.{Memory, cleared}
 use Rattle.forest.specs.IsTree.{Layers, listing}
-use Rattle.model.specs.Calls.{nodesOf, cellsOf, needed, findSaid, kthSaid, countSaid, removed, putDone}
+use Rattle.model.specs.Calls.{nodesOf, cellsOf, needed, findSaid, kthSaid, countSaid, whenAccepted, withoutEntry, removed, putDone}
+use Rattle.trees.specs.FreeNumbers.{timesIn}
 use Rattle.puts.specs.Needed.{neededNodes}
 
 -- a call, with its key and frame number, or its k
@@ -103,6 +104,22 @@ roomFor m call =
       nodes-needed = nodesFor m call;
     }
 
+-- ---- before empty layers were given back
+
+-- the memory that a call left before document 02's A14: a removal left the layers that it emptied
+abbrev pub leftBefore : Memory → Call → Memory
+leftBefore m clear = left m clear
+leftBefore m (put key x) = left m (put key x)
+leftBefore m (find key) = m
+leftBefore m (remove key) = whenAccepted (removed m key .answer) (withoutEntry m key) m
+leftBefore m (kth k) = m
+leftBefore m count = m
+
+-- and one call after the other
+abbrev pub leftAfterBefore : Memory → List Call → Memory
+leftAfterBefore m [] = m
+leftAfterBefore m (call ∷ calls) = leftAfterBefore (leftBefore m call) calls
+
 -- ---- one call after the other
 
 -- what the index says to one call after the other
@@ -154,10 +171,11 @@ pub record Took (m : Memory) (v : Layers) (key : List ℕ) (x : ℕ) (after : Me
   pub cell-written : after .cells ≡ putCell (m .cells) (getD (freeCells (m .cells) (cellsOf m)) 0 0) (length key) x
   pub key-written : after .bytes ≡ putKey (m .bytes) (getD (freeCells (m .cells) (cellsOf m)) 0 0) key
 
--- a removal freed cell c, which had the key: its words and bytes are zero, every other cell is as it was, and so are the free nodes
-pub record Freed (m : Memory) (key : List ℕ) (c : ℕ) (after : Memory) : Type 0 where
+-- A removal freed cell c, which had the key: its words and bytes are zero, and every other cell is as it was. Beside the nodes that were
+-- free these are free, and no other: each number is that much more often among the free ones.
+pub record Freed (m : Memory) (key : List ℕ) (c : ℕ) (ns : List ℕ) (after : Memory) : Type 0 where
   pub in-use : 1 ≤ markAt (m .cells) c
   pub its-key : keyAt (m .cells) (m .bytes) c ≡ key
   pub cell-freed : after .cells ≡ freedCell (m .cells) c
   pub key-freed : after .bytes ≡ freedKey (m .bytes) c
-  pub nodes-kept : freeNodes (after .nodes) (nodesOf m) ≡ freeNodes (m .nodes) (nodesOf m)
+  pub nodes-freed : (n : ℕ) → timesIn (freeNodes (after .nodes) (nodesOf m)) n ≡ timesIn (freeNodes (m .nodes) (nodesOf m)) n + timesIn ns n

@@ -6,6 +6,7 @@
 -- order: the first differing byte decides, else the shorter key is less. 0 stands for less, 1 for equal, 2 for greater.
 use Prim.Native.Nat.{ℕ, _+_, _≤_}
 use mathlib.Core.Path.{_≡_, sym, ap, _∙_}
+use mathlib.Core.Bool.{false}
 use mathlib.Core.Logic.{_≢_}
 use mathlib.Core.List.{List, [], _∷_}
 use mathlib.Core.Option.{none, some}
@@ -22,10 +23,14 @@ use Rattle.arena.specs.Free.{freeCells}
 use Rattle.arena.specs.Memory.{Memory, rightLengths, emptied}
 use Rattle.forest.specs.IsTree.{Layers, IsTree, listing}
 use Rattle.forest.specs.Walk.{isTree}
+use Rattle.model.specs.Calls as model
 use Rattle.model.specs.Calls.{countOf, nodesOf, cellsOf}
+use Rattle.model.specs.GivenBack.{toGiveBack, givenBack}
 use Rattle.puts.specs.Needed.{neededNodes, lentMore}
-use Rattle.as_map.specs.Calls.{Call, clear, put, kth, count, done, entry, counted, refusal, refused}
-use Rattle.as_map.specs.Calls.{heard, left, answers, leftAfter, OfBytes}
+use Rattle.index_given_back.specs.GaveBack.{missingIn, GaveBack}
+use Rattle.index_given_back.proofs.Step as steps
+use Rattle.as_map.specs.Calls.{Call, clear, put, remove, kth, count, done, entry, counted, refusal, refused}
+use Rattle.as_map.specs.Calls.{heard, left, answers, leftAfter, leftAfterBefore, OfBytes}
 use Rattle.as_map.specs.Calls.{roomFor, rooms, NoCell, FewNodes, Took}
 use Rattle.as_map.specs.Map.{mapSays, mapLeft, mapAnswers, mapAfter}
 use Rattle.as_map.specs.Tally.{putsSince, removalsSince}
@@ -129,6 +134,37 @@ module _ (m : Memory) (v : Layers) (t : IsTree m v) (bytes : Bytes (m .bytes)) (
   pub one-call-leaves : (w : Layers) × IsTree (left m call) w × Bytes (left m call .bytes)
       × (listing (left m call) w ≡ mapLeft (roomFor m call) (listing m v) call)
   one-call-leaves = leaves.leaves m v t bytes call b
+
+-- ---- empty layers are given back (document 02, A14)
+--
+-- Where document 01 lets an emptied leaf stay, a removal that empties a leaf that is the only node of a layer below the first frees that
+-- node and takes the link to it away, and goes on upward while the same holds there (crates/model/specs/GivenBack.antt). What a sorted map
+-- says does not change: all above keeps its text. The free nodes of `roomFor`, and so those of the statements about room below, count the
+-- nodes given back; which these are, exactly, is `removal-frees` of Meaning.
+
+module _ (m : Memory) (v : Layers) (t : IsTree m v) (bytes : Bytes (m .bytes)) (key : List ℕ) (b : Bytes key) where
+  -- One step, on any tree: where the layer in which a key is missing is empty, and below the first, memory without that layer is a tree
+  -- that lists the same; its node more is free, and no other.
+  pub step-gives-back : T (toGiveBack (m .nodes) key (model.place m key))
+      → GaveBack m v (missingIn (model.place m key) ∷ []) (givenBack m key (model.place m key))
+  step-gives-back e = steps.step-back m v t bytes key b e .1 .0
+
+  -- A removal makes 31 such steps at most, and they are all: it leaves none to do.
+  pub no-step-left : heard m (remove key) ≡ done
+      → toGiveBack (left m (remove key) .nodes) key (model.place (left m (remove key)) key) ≡ false
+  no-step-left = room.remove-none-left m v t bytes key b
+
+-- Good memory from before stays good: what clear and any calls left then (`leftAfterBefore`), emptied layers among it, is a tree by the
+-- rules, which are the same,
+module _ (n c : ℕ) (n-low : 1 ≤ n) (n-high : n ≤ 255) (c-low : 1 ≤ c) (c-high : c ≤ 255) {old : List Call} (then : All OfBytes old) where
+  pub good-from-before : T (isTree (leftAfterBefore (emptied n c) old))
+  good-from-before = index.before-tree n c n-low n-high c-low c-high then
+
+  -- and any calls now, on that memory, hear what the sorted map of its listing says.
+  pub map-from-before : (v : Layers) → IsTree (leftAfterBefore (emptied n c) old) v → {calls : List Call} → All OfBytes calls
+      → answers (leftAfterBefore (emptied n c) old) calls
+      ≡ mapAnswers (rooms (leftAfterBefore (emptied n c) old) calls) (listing (leftAfterBefore (emptied n c) old) v) calls
+  map-from-before v t of-bytes = index.before-is-map n c n-low n-high c-low c-high then v t of-bytes
 
 -- ---- room, on any lent memory that is a tree v, whatever was called before
 --

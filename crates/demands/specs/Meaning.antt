@@ -17,6 +17,7 @@ use Rattle.forest.proofs.One.{tree-one}
 use Rattle.model.specs.Calls as index
 use Rattle.views.proofs.Listed.{cells-listed}
 use Rattle.places.proofs.Found.{listing-rises}
+use Rattle.index_given_back.specs.Emptied.{emptiedLayers}
 use Rattle.as_map.specs.Calls.{remove, done, heard, left, Freed}
 use Rattle.as_map.proofs.Says.{stored-means}
 use Rattle.as_map.proofs.Room.{remove-freed}
@@ -46,7 +47,10 @@ module _ (m : Memory) (v : Layers) (t : IsTree m v) where
           × (index.stored m key ≡ false → lookup bytewise key (listing m v) ≡ none)
       stored-exactly = stored-means m v t bytes key b
 
-      -- An accepted removal frees the cell that has the key, and nothing else (which entry goes, and that a tree is left: `one-call-leaves`
-      -- of Demand2).
-      pub removal-frees : heard m (remove key) ≡ done → (c : ℕ) × Freed m key c (left m (remove key))
+      -- An accepted removal frees one cell, the one that has the key, and the nodes of the layers that it leaves empty, and nothing else
+      -- (which entry goes, and that a tree is left: `one-call-leaves` of Demand2). Document 01 has it free no node; document 02 (A14)
+      -- amends that. u is the tree without the key's entry, before any layer goes: on the key's way, below the first layer, the last layer
+      -- goes if it is one leaf without entries, and each further one upward as long as it is one leaf with nothing but the link.
+      pub removal-frees : heard m (remove key) ≡ done
+          → (c : ℕ) × (u : Layers) × IsTree (index.withoutEntry m key) u × Freed m key c (emptiedLayers u key) (left m (remove key))
       removal-frees = remove-freed m v t bytes key b

@@ -16,6 +16,7 @@ use Rattle.model.specs.declared.Met.{Met}
 use Rattle.model.specs.declared.Met.the-variants.{Stored}
 use Rattle.model.specs.Meet.{meet}
 use Rattle.model.specs.Leaves.{entryTaken}
+use Rattle.model.specs.GivenBack.{allGivenBack}
 use Rattle.model.specs.Calls.{removed}
 use Rattle.model.proofs.Met as met
 use Rattle.index_remove.proofs.Lent.{tag-other}
@@ -42,7 +43,8 @@ module _ (nodes cells bytes key : List ℕ) where
       remove-none h = rw (le-leb (length key) 256 s, ← e, y, ← m, tag-other r h)
 
       module _ {leaf p c : ℕ} (q : r ≡ Stored leaf p c) where
-        pub remove-done : {n1 c1 b1 : List ℕ} → n1 ≡ set (entryTaken nodes leaf p) 1 (getD nodes 1 0 - 1) → c1 ≡ freedCell cells c → b1 ≡ freedKey bytes c
-            → did (accepted []) (memory n1 c1 b1) ≡ removed (memory nodes cells bytes) key
+        pub remove-done : {n1 n2 c1 b1 : List ℕ} → n1 ≡ set (entryTaken nodes leaf p) 1 (getD nodes 1 0 - 1) → c1 ≡ freedCell cells c
+            → b1 ≡ freedKey bytes c → memory n2 c1 b1 ≡ allGivenBack 31 (memory n1 c1 b1) key
+            → did (accepted []) (memory n2 c1 b1) ≡ removed (memory nodes cells bytes) key
         unfolding removed
-        remove-done en ec eb = rw (le-leb (length key) 256 s, ← e, y, ← m, q, en, ec, eb)
+        remove-done en ec eb back = rw (le-leb (length key) 256 s, ← e, y, ← m, q, ← en, ← ec, ← eb, ← back)

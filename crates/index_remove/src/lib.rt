@@ -15,6 +15,9 @@ use refusal::Refusal;
 // The most bytes that a key has.
 const LONGEST: usize = CELL_BYTES;
 
+// The most links on the way to a key.
+const MOST_LINKS: usize = 31;
+
 // What a removal answers.
 pub enum Removed {
     Done,
@@ -41,7 +44,7 @@ fn one_less(n: u64) -> u64
     n - 1
 }
 
-// Takes a key away: its entry goes, its cell is free again, and one entry less is counted.
+// Takes a key away: its entry goes, its cell is free again, one entry less is counted, and layers that this leaves empty are given back.
 pub fn remove(nodes: &mut [u64], cells: &mut [u64], bytes: &mut [u8], key: &[u8]) -> Removed
     ensures { λ r. ⌜ did (saidRemoved r) (memory (now (nodes .exit)) (now (cells .exit)) (now (bytes .exit)))
         ≡ removed (memory (now (nodes .entry)) (now (cells .entry)) (now (bytes .entry))) (now (key .entry)) ⌝ }
@@ -60,6 +63,7 @@ pub fn remove(nodes: &mut [u64], cells: &mut [u64], bytes: &mut [u8], key: &[u8]
     } = met {
         take_counted(nodes, leaf as usize, position);
         arena::inside::free_cell(cells, bytes, cell as usize);
+        index_empty_layers::inside::give_back(nodes, cells, bytes, key, MOST_LINKS);
         return Removed::Done;
     }
     Removed::Refused(Refusal::Missing)

@@ -19,6 +19,7 @@ use Rattle.model.specs.declared.Met.the-variants.{Stored, Conflict, Miss
 use Rattle.model.specs.Meet.{meet, numberWord}
 use Rattle.model.specs.Listed.{cellsOfLayer}
 use Rattle.model.specs.Leaves.{entryTaken}
+use Rattle.model.specs.GivenBack.{allGivenBack}
 use Rattle.model.specs.Needed.{needIn, layersOf}
 use Rattle.model.specs.Grow.{Label, entryFor, layerGrown, layersGrown}
 
@@ -103,10 +104,14 @@ whenAccepted a after before = cond (eqb (a .number) 0) after before
 abbrev pub removeSaid : Memory → List ℕ → Answer
 removeSaid m key = answered (keyRules m key ((12 unless stored m key) ∷ [])) [] []
 
--- what remove answers, and the memory that it leaves: without the entry, and one less counted
+-- memory without a stored key: without its entry, and one less counted
+abbrev pub withoutEntry : Memory → List ℕ → Memory
+withoutEntry m key = withCount (without m (place m key)) (countOf m - 1)
+
+-- what remove answers, and the memory that it leaves: without the entry, and the layers given back that this leaves empty, from the key's
+-- own upward; no key has more than 31 links
 unfoldable pub removed : Memory → List ℕ → Did
-removed m key =
-    did (removeSaid m key) (whenAccepted (removeSaid m key) (withCount (without m (place m key)) (countOf m - 1)) m)
+removed m key = did (removeSaid m key) (whenAccepted (removeSaid m key) (allGivenBack 31 (withoutEntry m key) key) m)
 
 -- ---- put
 

@@ -5,4 +5,5 @@ pub mod Leaves
 pub mod Internodes
 pub mod Needed
 pub mod Grow
+pub mod GivenBack
 pub mod Calls

@@ -145,7 +145,7 @@ module _ (m : Memory) (K : List ℕ) (whole : length (m .nodes) ≡ 2 + nodesIn 
         ∙ layer-found 15 0 (λ e. 0) rightEdge l M v (layerKey ks K) key-small H (λ j. omega (arith, u j)) .2
         ∙ ap (mapOption (pointerOf l)) q
 
-    gone-layer : (lf p : ℕ) (x : Pointer) → Entered m K (layerRoot l v) (length ks) lf p x
+    pub gone-layer : (lf p : ℕ) (x : Pointer) → Entered m K (layerRoot l v) (length ks) lf p x
         → (layerPut Pointer 15 mid cut (heightFrom (length M) M (layerRoot l v)) (layerKey ks K) (λ o. none) (layerRoot l v) M
         ≡ (layerRoot l v, leftAt m lf p)) × MayGo m lf p
     gone-layer lf p x E =

@@ -161,7 +161,7 @@ order-view : (a b : Key) → layerOrder (keyView a) (keyView b) ≡ layerOrder a
 unfolding layerOrder
 order-view a b = rw (compare·suc-suc (a .0) (b .0)) refl
 
-lookup-view : (l : ℕ) (k : Key) (es : List (Key × Value l))
+pub lookup-view : (l : ℕ) (k : Key) (es : List (Key × Value l))
     → lookup layerOrder (keyView k) (map (λ e. (keyView (e .0), valueView l (e .1))) es) ≡ mapOption (valueView l) (lookup layerOrder k es)
 unfolding lookup
 lookup-view l k [] = refl

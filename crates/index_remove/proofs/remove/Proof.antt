@@ -2,7 +2,7 @@
 use native.Mathlib.Omega.{arith}
 use borrow.Author.Tests.{not-true, not-false}
 use borrow.Author.Needs.{needs}
-use Rattle.index_remove.proofs.Lent.{tree-root, tree-seek, stored-entry, stored-cell}
+use Rattle.index_remove.proofs.Lent.{tree-root, tree-seek, stored-entry, stored-cell, still-lent}
 use Rattle.index_remove.proofs.Removing.{remove-long, remove-unfit, remove-none, remove-done}
 use Rattle.index_remove.proofs.remove.Statement.{statement}
 use Rattle.index_remove.proofs.remove.Tie as tie
@@ -42,6 +42,32 @@ free-cell-requires c κs =
     (t .before .before .met .given .1) in
     omega arith
 
+give-back-requires : tie.Need-give-back-requires
+give-back-requires c κs =
+    let f = c .before .before .before .before .before .before .before in
+    let t = f .before .before .before .before .before in
+    let g = t .before .before .before in
+    let s = g .before .before .before .before .before .before in
+    let tree = s .before .is-tree .ensures in
+    let good = not-false _ (s .if2 .left) in
+    let short = s .before .before .before .before .before .if1 .left in
+    let (lent, rest) = tree-seek _ _ _ tree good short in
+    let (n, l) = still-lent _ _ _ _ _ _ _ (lent .0) (lent .1)
+    (stored-cell _ _ _ tree good (g .before .before .seek .ensures .1) (g .met .given .1))
+    (t .take-counted .ensures) (f .free-cell .ensures .0) (f .free-cell .ensures .1) in
+    (n, l, short)
+
+returns-3 : tie.Need-returns-3
+returns-3 c =
+    let a = c .before .before in
+    let f = a .before .before .before .before .before .before .before .before in
+    let t = f .before .before .before .before .before in
+    let g = t .before .before .before in
+    let s = g .before .before .before .before .before .before in
+    remove-done _ _ _ _ (s .before .before .before .before .before .if1 .left) (s .before .is-tree .ensures) (not-false _ (s .if2 .left)) _
+    (g .before .before .seek .ensures .0) (g .met .given .1) (t .take-counted .ensures) (f .free-cell .ensures .0)
+    (f .free-cell .ensures .1) (a .give-back .ensures)
+
 returns-4 : tie.Need-returns-4
 returns-4 c =
     let s = c .before .before .before .before .before in
@@ -63,10 +89,11 @@ remove-spec =
     (λ c. search needs)
     take-counted-requires
     free-cell-requires
+    give-back-requires
     (λ c. search needs)
     (λ c. search needs)
     (λ c. search needs)
-    (λ c. search (remove-done, not-false))
+    returns-3
     (λ c. search needs)
     (λ c. search needs)
     (λ c. search needs)

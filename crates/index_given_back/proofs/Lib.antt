@@ -1,0 +1,9 @@
+pub mod Entries
+pub mod Freed
+pub mod Hollow
+pub mod Upward
+pub mod Ways
+pub mod Step
+pub mod All
+pub mod Exact
+pub mod Emptied

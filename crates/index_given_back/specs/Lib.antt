@@ -1,0 +1,2 @@
+pub mod GaveBack
+pub mod Emptied
