@@ -1,9 +1,10 @@
 /*
  * Cherchivola for C and C++: the frame-buffer bank of the camera (slot words, and wide banks for more than 15 buffers), its labels (keys),
- * one internode by itself, the label index in memory that the caller lends, and its image on a card.
+ * one internode by itself, the label index in memory that the caller lends, its image on a card, and frame labels of both editions.
  *
- * Every call but read_ikey returns 0 when it is accepted. Otherwise it returns the number of its refusal, and every number, word and byte
- * that was lent to it is as it was before, but for a number that is lent for what the refusal tells, and for an index that `load` empties.
+ * Every call that can be refused returns 0 when it is accepted. Otherwise it returns the number of its refusal, and every number, word and
+ * byte that was lent to it is as it was before, but for a number that is lent for what the refusal tells, and for an index that `load`
+ * empties. Three calls are never refused: read_ikey returns the ikey, and the two that build a label return nothing.
  * Where several refusals apply, the lowest is returned; `load` has an order of its own. Any values are answered: there is nothing that a
  * caller has to test first.
  *
@@ -11,8 +12,8 @@
  *
  * What a caller owes:
  * - A lent pointer is not null, is aligned for its type and points to as many elements as the length behind it says; `ikeys` points to 15
- *   words, `children` to 16, and a wide bank is 25 bytes. Also where a length is 0 the pointer is a valid one, such as that of an empty
- *   string.
+ *   words, `children` to 16, a wide bank is 25 bytes, and a label that is built has the 8 or 9 bytes of its edition. Also where a length is
+ *   0 the pointer is a valid one, such as that of an empty string.
  * - Nothing lent to a call overlaps anything else that is lent to it, and nobody else reads or writes it during the call. So a key that
  *   stands in lent memory is copied out before it is handed to remove_key.
  * - There is stack enough. Below each part stands how much its calls take.
@@ -51,7 +52,8 @@ enum {
     CHERCHIVOLA_IMAGE_LENGTH = 15, /* the image is no positive multiple of 512 bytes long */
     CHERCHIVOLA_BAD_CHECK = 16,    /* a block of the image does not agree with its check */
     CHERCHIVOLA_BAD_STREAM = 17,   /* what the blocks hold is not as it is written */
-    CHERCHIVOLA_SHORT_BUFFER = 18  /* the buffer is too short for the image */
+    CHERCHIVOLA_SHORT_BUFFER = 18, /* the buffer is too short for the image */
+    CHERCHIVOLA_NO_LABEL = 19      /* the label is of an unknown edition, or not as long as those of its edition */
 };
 
 /* How one stands to the other, as the comparisons write it. */
@@ -312,6 +314,30 @@ uint64_t cherchivola_save(const uint64_t *nodes, size_t node_words, const uint64
  */
 uint64_t cherchivola_load(uint64_t *nodes, size_t node_words, uint64_t *cells, size_t cell_words, uint8_t *bytes, size_t byte_count,
                           const uint8_t *image, size_t image_length, uint64_t *entries, uint64_t *told);
+
+/*
+ * Frame labels: what a camera stores a frame under. Edition 1 is 8 bytes: 1, two bytes of station, four of burst and one of frame. Edition
+ * 2 is 9 bytes: 2, two of station, four of burst and two of frame. The highest byte of a field comes first, so that the index lists labels
+ * of one edition by station, then burst, then frame, and all of edition 1 before those of edition 2. To the index they are keys as any.
+ *
+ * Stack: under 150 bytes.
+ */
+
+/* Writes a label. Never refused: each field has the type that its edition has room for. */
+void cherchivola_label_build_first(uint16_t station, uint32_t burst, uint8_t frame, uint8_t label[8]);
+void cherchivola_label_build_second(uint16_t station, uint32_t burst, uint16_t frame, uint8_t label[9]);
+
+/*
+ * Reads a label of either edition: 1 or 2 into *edition, and its fields. Refused: 19 where its first byte is another, and else where it has
+ * not the length of its edition; the first byte goes into *told, or 0 where `length` is 0, and the other four are as they were. Accepted,
+ * *told is as it was.
+ */
+uint64_t cherchivola_label_read(const uint8_t *label, size_t length, uint8_t *edition, uint16_t *station, uint32_t *burst,
+                                uint16_t *frame, uint64_t *told);
+
+/* The same by a reader that knows edition 1 alone: to it edition 2 is an unknown one, refused with 19 and 2 in *told. */
+uint64_t cherchivola_label_read_first(const uint8_t *label, size_t length, uint16_t *station, uint32_t *burst, uint8_t *frame,
+                                      uint64_t *told);
 
 #ifdef __cplusplus
 }

@@ -34,9 +34,12 @@ static size_t key_length[2];
 static int keys;
 static uint8_t *key_end[2];
 
-/* Lent numbers, each between two that must stay. */
+/* Lent numbers, each between two that must stay. The last three are for the fields of frame labels. */
 static uint64_t lent_word[7];
 static size_t lent_size[7];
+static uint8_t lent_8[3];
+static uint16_t lent_16[5];
+static uint32_t lent_32[3];
 
 /* An internode, and lent memory with its lengths: where each ends is a guarded page. What was there before a call is kept beside it. */
 static uint64_t *ikeys, *children;
@@ -89,6 +92,17 @@ static void tell_word(int place) { printf(" %" PRIx64, lent_word[2 * place + 1])
 
 static void tell_size(int place) { printf(" %zx", lent_size[2 * place + 1]); }
 
+/* Writes the numbers beside those that are lent for fields. */
+static void guard_fields(void) {
+    lent_8[0] = lent_8[2] = 0x5E, lent_16[0] = lent_16[2] = lent_16[4] = 0x5EED, lent_32[0] = lent_32[2] = 0x5EED5EED;
+}
+
+/* Whether they are as they were. */
+static int fields_alone(void) {
+    return lent_8[0] == 0x5E && lent_8[2] == 0x5E && lent_16[0] == 0x5EED && lent_16[2] == 0x5EED && lent_16[4] == 0x5EED &&
+           lent_32[0] == 0x5EED5EED && lent_32[2] == 0x5EED5EED;
+}
+
 /* Ends the line of a call, with a word where a number beside a lent one was written. */
 static void end_line(void) {
     for (int k = 0; k < 7; k += 2) {
@@ -96,6 +110,8 @@ static void end_line(void) {
         lent_word[k] = BESIDE;
         lent_size[k] = BESIDE;
     }
+    if (!fields_alone()) printf(" beside");
+    guard_fields();
     putchar('\n');
 }
 
@@ -330,6 +346,38 @@ static void call_load(void) {
     tell_word(0), tell_word(1), take_card(), take_back();
 }
 
+/* ---- frame labels: one that is built ends where nothing may be touched, one that is read is the line's key */
+
+/* Prints the bytes of a label that was built, with a word where the byte before it was written. */
+static void tell_label(const uint8_t *label, size_t length) {
+    for (size_t k = 0; k < length; k++) printf("%02x", label[k]);
+    if (label[-1] != 0x5E) printf(" before");
+}
+
+static void call_label_build_first(void) {
+    uint8_t *label = key_end[0] - 8;
+    memset(label - 1, 0x5E, 9);
+    cherchivola_label_build_first(at(0), at(1), at(2), label), tell_label(label, 8);
+}
+
+static void call_label_build_second(void) {
+    uint8_t *label = key_end[0] - 9;
+    memset(label - 1, 0x5E, 10);
+    cherchivola_label_build_second(at(0), at(1), at(2), label), tell_label(label, 9);
+}
+
+static void call_label_read(void) {
+    lent_8[1] = at(0), lent_16[1] = at(1), lent_32[1] = at(2), lent_16[3] = at(3);
+    returned(cherchivola_label_read(key[0], key_length[0], &lent_8[1], &lent_16[1], &lent_32[1], &lent_16[3], word(0, 4)));
+    printf(" %x %x %" PRIx32 " %x", lent_8[1], lent_16[1], lent_32[1], lent_16[3]), tell_word(0);
+}
+
+static void call_label_read_first(void) {
+    lent_16[1] = at(0), lent_32[1] = at(1), lent_8[1] = at(2);
+    returned(cherchivola_label_read_first(key[0], key_length[0], &lent_16[1], &lent_32[1], &lent_8[1], word(0, 3)));
+    printf(" %x %" PRIx32 " %x", lent_16[1], lent_32[1], lent_8[1]), tell_word(0);
+}
+
 /* ---- lines that are no calls */
 
 /* memory A B C: so many words of nodes, words of cells and bytes, all zero, as the card is then. */
@@ -389,7 +437,7 @@ static const struct named calls[] = {
     CALL(wide_remove_slot), CALL(wide_exchange), CALL(wide_rotate), CALL(read_ikey), CALL(compare_keys), CALL(key_new), CALL(key_shift), CALL(key_shift_by), CALL(key_unshift), CALL(key_unshift_all),
     CALL(key_compare), CALL(key_compare_suffix), CALL(find_insert_position), CALL(compare_key), CALL(child_for),
     CALL(insert_key_and_child), CALL(lengths), CALL(clear), CALL(put), CALL(remove_key), CALL(find), CALL(kth), CALL(count), CALL(audit),
-    CALL(save), CALL(load)};
+    CALL(save), CALL(load), CALL(label_build_first), CALL(label_build_second), CALL(label_read), CALL(label_read_first)};
 
 /* What a digit stands for. */
 static int digit(char hex) {
@@ -445,6 +493,7 @@ int main(void) {
     nodes_end = guarded(sizeof all_nodes), cells_end = guarded(sizeof all_cells), bytes_end = guarded(sizeof all_bytes);
     card_end = guarded(sizeof all_card);
     for (int k = 0; k < 7; k += 2) lent_word[k] = lent_size[k] = BESIDE;
+    guard_fields();
     while (fgets(line, sizeof line, stdin) != NULL) {
         const char *name = strtok(line, " \n");
         if (name == NULL) continue;

@@ -12,14 +12,15 @@ import subprocess
 import sys
 from collections import Counter
 
-from some import SLOT_CALLS, KEY_CALLS, NODE_CALLS, key_call, node_call, slot_call
+from some import SLOT_CALLS, KEY_CALLS, NODE_CALLS, LABEL_CALLS, key_call, label_call, node_call, slot_call
 from images import load_damaged
 from lent import SIZES, Lent
 from wide import WIDE_CALLS, wide_call
 
 SHOWN = 10
 INDEX_CALLS = ["lengths", "clear", "put", "remove_key", "find", "kth", "count", "audit", "save", "load"]
-FUNCTIONS = SLOT_CALLS + WIDE_CALLS + KEY_CALLS + NODE_CALLS + INDEX_CALLS
+FUNCTIONS = SLOT_CALLS + WIDE_CALLS + KEY_CALLS + NODE_CALLS + INDEX_CALLS + LABEL_CALLS
+NEVER_REFUSED = ("dump", "read_ikey", "label_build_first", "label_build_second")
 
 
 class Talk:
@@ -59,6 +60,9 @@ def talked(seed, scale):
     for _ in range(8000 * scale):
         for name in WIDE_CALLS:
             talk.call(name, *wide_call(rng, name))
+    for _ in range(3000 * scale):
+        for name in LABEL_CALLS:
+            talk.call(name, *label_call(rng, name))
     return talk
 
 
@@ -86,7 +90,7 @@ def report(answers):
     calls, refused = Counter(), {}
     for name, expected, _ in answers:
         calls[name] += 1
-        number = int(expected.split()[0], 16) if name not in ("dump", "read_ikey") else 0
+        number = int(expected.split()[0], 16) if name not in NEVER_REFUSED else 0
         refused.setdefault(name, Counter())[number] += 1
     for name in [name for name in FUNCTIONS if calls[name]]:
         numbers = ", ".join("%d: %d" % pair for pair in sorted(refused[name].items()) if pair[0])

@@ -1,7 +1,8 @@
-# Random calls on slot words, keys and internodes, each with the line to ask and the answer it must get: valid and invalid, at edges and far
-# beyond them.
+# Random calls on slot words, keys, internodes and frame labels, each with the line to ask and the answer it must get: valid and invalid,
+# at edges and far beyond them.
 
 import bank
+import editions
 import internodes
 import layers
 import words
@@ -19,6 +20,7 @@ SLOT_CALLS = ["empty", "make_sorted", "from_value", "size", "get", "back", "back
 KEY_CALLS = ["read_ikey", "compare_keys", "key_new", "key_shift", "key_shift_by", "key_unshift", "key_unshift_all", "key_compare",
              "key_compare_suffix"]
 NODE_CALLS = ["find_insert_position", "compare_key", "child_for", "insert_key_and_child"]
+LABEL_CALLS = ["label_build_first", "label_build_second", "label_read", "label_read_first"]
 
 
 # What stands in a lent number before.
@@ -212,3 +214,40 @@ def node_call(rng, name):
         return (*line, target, p, old), (number, or_else(told, old))
     number, told = getattr(internodes, name)(*node, target)
     return (*line, target, old), (number, or_else(told, old))
+
+
+# ---- frame labels
+
+# Any fields of an edition, each often at an edge.
+def some_fields(rng, edition):
+    sizes = (16, 32, 8 * editions.FRAME_BYTES[edition])
+    return [rng.choice((0, 1, (1 << size) - 1, 1 << rng.randrange(size), rng.getrandbits(size), rng.getrandbits(size))) for size in sizes]
+
+
+# A label of either edition, mostly as it is; else with another first byte, cut short or made longer, or any bytes.
+def some_label(rng):
+    edition = rng.choice((editions.FIRST, editions.SECOND))
+    label = editions.build(edition, *some_fields(rng, edition))
+    kind = rng.randrange(8)
+    if kind == 0:
+        return bytes([rng.choice((0, 1, 2, 3, rng.randrange(256)))]) + label[1:]
+    if kind == 1:
+        return label[:rng.randrange(len(label))]
+    if kind == 2:
+        return label + bytes(rng.choice((1, 2, 255, 256)))
+    return some_key(rng) if kind == 3 else label
+
+
+# One call that builds a label, or reads one: what is lent is as it was where nothing is told.
+def label_call(rng, name):
+    if name.startswith("label_build"):
+        edition = editions.FIRST if name.endswith("first") else editions.SECOND
+        fields = some_fields(rng, edition)
+        return fields, (editions.build(edition, *fields).hex(),)
+    label, old = some_label(rng), before(rng)
+    known, sizes = ((editions.FIRST,), (16, 32, 8)) if name.endswith("first") else ((editions.FIRST, editions.SECOND), (8, 16, 32, 16))
+    lent = [rng.getrandbits(size) for size in sizes]
+    number, told = editions.read(label, known)
+    if number:
+        return (*lent, old, label), (number, *lent, told)
+    return (*lent, old, label), (0, *told[-len(lent):], old)

@@ -14,9 +14,9 @@ use Rattle.card_load.specs.declared.Loaded.{Loaded}
 use Rattle.card_load.specs.declared.Loaded.the-variants as loaded-is
 use Rattle.card_load.specs.Load.{saidLoaded}
 use Rattle.crossing.specs.Crossing.{Crossed}
-use Rattle.crossing.proofs.Crosses.{refusal-crosses}
-use Rattle.index_crossing.proofs.Crosses.{nothing-told}
-use Rattle.card_crossing.specs.Both.{CrossedBoth, CrossedLentBoth}
+use Rattle.crossing.specs.Told.{CrossedBoth}
+use Rattle.crossing.proofs.Crosses.{refusal-crosses, nothing-told}
+use Rattle.card_crossing.specs.Both.{CrossedLentBoth}
 use Rattle.card_crossing.specs.Out.{CrossedOut}
 
 -- an answer beside a buffer crosses as what was done

@@ -1,20 +1,14 @@
--- How a call crosses to C that tells numbers both where it is accepted and where it is refused: into numbers of their own each.
+-- How a call that changes lent memory, and tells numbers both where it is accepted and where it is refused, crosses to C: into numbers of
+-- their own each.
 use Prim.Native.Nat.{ℕ}
 use mathlib.Core.Path.{_≡_}
 use mathlib.Core.List.{List}
-use Rattle.refusal.specs.Answer.{Answer}
 use Rattle.arena.specs.Memory.{Memory, Did}
 use Rattle.crossing.specs.Crossing.{lentAfter}
-use Rattle.index_crossing.specs.Told.{toldAfter}
+use Rattle.crossing.specs.Told.{toldAfter}
 
--- the call returned the answer's number, and left the numbers that are lent for what an accepted call tells as these, and those that are
--- lent for what a refusal tells as those; either are as they were before where nothing is told
-pub record CrossedBoth (a : Answer) (returned : ℕ) (before after before-told after-told : List ℕ) : Type 0 where
-  pub number : returned ≡ a .number
-  pub values : after ≡ lentAfter a before
-  pub told : after-told ≡ toldAfter a before-told
-
--- the call returned the number of what was done, left this memory, and both kinds of lent numbers likewise
+-- the call returned the number of what was done, left this memory, the numbers that are lent for what an accepted call tells as these,
+-- and those that are lent for what a refusal tells as those; either are as they were before where nothing is told
 pub record CrossedLentBoth (d : Did) (returned : ℕ) (left : Memory) (before after before-told after-told : List ℕ) : Type 0 where
   pub number : returned ≡ d .answer .number
   pub lent : left ≡ d .after

@@ -3,7 +3,7 @@ ghost use mathlib.Core.List.{[], _∷_};
 ghost use Rattle.card_save.specs.Answers.{saidSaved};
 ghost use Rattle.card_load.specs.Load.{saidLoaded};
 ghost use Rattle.crossing.specs.Crossing.{Crossed};
-ghost use Rattle.card_crossing.specs.Both.{CrossedBoth};
+ghost use Rattle.crossing.specs.Told.{CrossedBoth};
 use card_load::Loaded;
 use card_save::Saved;
 

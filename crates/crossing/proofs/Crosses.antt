@@ -2,7 +2,7 @@
 use Prim.Native.Nat.{ℕ, _<_}
 use native.Mathlib.Omega.{arith}
 use mathlib.Core.Path.{_≡_, refl, sym, subst, _∙_}
-use mathlib.Core.Bool.{Bool, true, false}
+use mathlib.Core.Bool.{Bool, true, false, cond}
 use mathlib.Core.List.{List, [], _∷_}
 use lib.Dec.{eqb}
 use borrow.Author.Tests.{ne-eqb}
@@ -20,6 +20,7 @@ use Rattle.slot_answers.specs.declared.Made.{Made}
 use Rattle.slot_answers.specs.declared.Made.the-variants as M
 use Rattle.permuter.specs.Answers.{saidChanged, saidInserted, saidTold, saidMade}
 use Rattle.crossing.specs.Crossing.{writtenIf, Crossed}
+use Rattle.crossing.specs.Told.{CrossedBoth}
 
 -- a refusal returns its number, and what was lent stays
 pub refusal-crosses : (why : Refusal) (back lent : List ℕ) {r : ℕ} → r ≡ numberOf why →
@@ -36,6 +37,26 @@ crosses-as {r = r} {before = before} {after = after} e h = subst (λ (x : Answer
 pub one-outcome : {a : Answer} {r r′ : ℕ} {before after after′ : List ℕ} → Crossed a r before after →
     Crossed a r′ before after′ → (r ≡ r′) × (after ≡ after′)
 one-outcome h h′ = (h .number ∙ sym (h′ .number), h .lent ∙ sym (h′ .lent))
+
+-- a refusal that tells nothing leaves what was lent
+pub nothing-told : (why : Refusal) (before : List ℕ) → before ≡ cond (eqb (numberOf why) 0) before before
+nothing-told why before = by (eqb (numberOf why) 0)
+  where
+    by : (b : Bool) → before ≡ cond b before before
+    by true = refl
+    by false = refl
+
+-- an answer that is known, and tells on both sides, crosses as that one does
+pub both-crosses-as : {a b : Answer} {r : ℕ} {before after before-told after-told : List ℕ} → a ≡ b →
+    CrossedBoth a r before after before-told after-told → CrossedBoth b r before after before-told after-told
+both-crosses-as {r = r} {before = before} {after = after} {before-told = old} {after-told = new} e h =
+    subst (λ (x : Answer). CrossedBoth x r before after old new) e h
+
+-- it leaves one outcome: what is returned, and what stands in both kinds of lent numbers
+pub one-outcome-of-both : {a : Answer} {r r′ : ℕ} {before after after′ before-told after-told after-told′ : List ℕ} →
+    CrossedBoth a r before after before-told after-told → CrossedBoth a r′ before after′ before-told after-told′ →
+    (r ≡ r′) × (after ≡ after′) × (after-told ≡ after-told′)
+one-outcome-of-both h h′ = (h .number ∙ sym (h′ .number), h .values ∙ sym (h′ .values), h .told ∙ sym (h′ .told))
 
 module _ {answer : Changed} where
   pub changed-word : {new old : ℕ} → answer ≡ C.Word new → Crossed (saidChanged answer) 0 (old ∷ []) (new ∷ [])

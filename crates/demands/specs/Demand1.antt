@@ -117,7 +117,7 @@ pub empty-wides : (w : ℕ)
 unfolding madeEmptyIn listedAbove
 empty-wides w = as-ruled tt
 
--- ---- keys: in `Demand1Keys.antt`
+-- ---- keys: in `Demand1Keys.antt`; frame labels (document 02, A10): in `Labels.antt`
 
 -- ---- one node
 

@@ -5,6 +5,7 @@ pub mod Demand2
 pub mod Demand3
 pub mod Demand3Wide
 pub mod Card
+pub mod Labels
 pub mod Examples
 pub mod Lines
 pub mod Splits

@@ -1,9 +1,7 @@
 -- What each case of an answer of the index leaves for C: an accepted one its values, a refused one its number alone. Assumes nothing.
 use Prim.Native.Nat.{ℕ}
 use mathlib.Core.Path.{_≡_, refl, sym, subst, ap, _∙_}
-use mathlib.Core.Bool.{Bool, true, false, cond}
 use mathlib.Core.List.{List, [], _∷_}
-use lib.Dec.{eqb}
 use Rattle.refusal.specs.declared.Refusal.{Refusal}
 use Rattle.refusal.specs.Refusals.{numberOf}
 use Rattle.refusal.specs.Answer.{Answer}
@@ -28,9 +26,10 @@ use Rattle.index_count.specs.declared.Counted.{Counted}
 use Rattle.index_count.specs.declared.Counted.the-variants as counted-is
 use Rattle.index_count.specs.Answers.{saidCounted}
 use Rattle.crossing.specs.Crossing.{Crossed}
-use Rattle.crossing.proofs.Crosses.{refusal-crosses}
+use Rattle.crossing.specs.Told.{CrossedTold}
+use Rattle.crossing.proofs.Crosses.{refusal-crosses, nothing-told}
 use Rattle.index_crossing.specs.Lent.{CrossedLent}
-use Rattle.index_crossing.specs.Told.{CrossedTold, CrossedLentTold}
+use Rattle.index_crossing.specs.Told.{CrossedLentTold}
 
 -- an answer with memory behind it crosses as what was done
 pub done-crosses : {a : Answer} {m : Memory} {d : Did} {r : ℕ} → did a m ≡ d → Crossed a r [] [] → CrossedLent d r m
@@ -59,14 +58,6 @@ told-crosses {a} {m} {r = r} {before = before} {after = after} e h =
 pub one-told-outcome : {d : Did} {r r′ : ℕ} {m m′ : Memory} {before after after′ : List ℕ} → CrossedLentTold d r m before after →
     CrossedLentTold d r′ m′ before after′ → (r ≡ r′) × (m ≡ m′) × (after ≡ after′)
 one-told-outcome h h′ = (h .number ∙ sym (h′ .number), h .lent ∙ sym (h′ .lent), h .told ∙ sym (h′ .told))
-
--- a refusal that tells nothing leaves what was lent
-pub nothing-told : (why : Refusal) (before : List ℕ) → before ≡ cond (eqb (numberOf why) 0) before before
-nothing-told why before = by (eqb (numberOf why) 0)
-  where
-    by : (b : Bool) → before ≡ cond b before before
-    by true = refl
-    by false = refl
 
 module _ {answer : Added} {before : ℕ} where
   pub added-done : answer ≡ added-is.Done → CrossedTold (saidAdded answer) 0 (before ∷ []) (before ∷ [])

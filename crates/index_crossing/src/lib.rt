@@ -5,7 +5,7 @@ ghost use Rattle.audit.specs.Audit.{saidAudited};
 ghost use Rattle.index.specs.Answers.{saidAdded, saidRemoved, saidFound, saidListed};
 ghost use Rattle.index_count.specs.Answers.{saidCounted};
 ghost use Rattle.crossing.specs.Crossing.{Crossed};
-ghost use Rattle.index_crossing.specs.Told.{CrossedTold};
+ghost use Rattle.crossing.specs.Told.{CrossedTold};
 use arena::Cleared;
 use arena::Measured;
 use audit::Audited;
