@@ -6,10 +6,10 @@
 -- n ≤ W. `AsRuled rules values back answer` says: where no rule applies the answer is accepted with the values; else its number
 -- is the lowest that applies, and what was given comes back, behind the numbers that the refusal tells (`telling`; most tell none).
 -- `KeepsMemory` adds, for calls on lent memory, that a refused call leaves every word and byte as it was.
-use Prim.Native.Nat.{ℕ, _+_, _-_, _*_, _/_, _^_, _<_, compare}
+use Prim.Native.Nat.{ℕ, _+_, _-_, _*_, _/_, _^_, _≤_, _<_, compare}
 use mathlib.Core.Path.{_≡_, refl, subst, sym}
 use mathlib.Core.Logic.{_⊎_, _≢_}
-use mathlib.Core.Bool.{not, _&&_}
+use mathlib.Core.Bool.{cond, not, _&&_}
 use mathlib.Core.List.{List, [], _∷_, _++_}
 use lib.Dec.{leb, ltb, eqb}
 use lib.ListN.{length, getD, drop, replicate}
@@ -23,6 +23,8 @@ use Rattle.bank.proofs.Rules.{changes-listed, questions-listed}
 use Rattle.nibbles.specs.Words.{bankOf, wordOf, goodWidth, validWord, clearedWord}
 use Rattle.permuter.specs.Words.{wordRules, changed, asked, madeSorted, madeEmpty}
 use Rattle.permuter.proofs.History as words
+use Rattle.slots_sorted.specs.Table.{table}
+use Rattle.slots_sorted.proofs.Table.{table-ruled}
 use Rattle.wide_bytes.specs.Wide as wide
 use Rattle.wide_bank.specs.Wides as wides
 use Rattle.ikey.specs.Said.{place}
@@ -86,6 +88,12 @@ sorted-words w n = as-ruled tt
 pub empty-words : (w : ℕ) → AsRuled ((1 unless goodWidth w) ∷ []) (wordOf (sorted w 0) ∷ []) [] (madeEmpty w)
 unfolding madeEmptyIn listedAbove
 empty-words w = as-ruled tt
+
+-- The sorted words stand in a table of 240, which `make_sorted` and every split answer from (A2): the entry of a width and a size is the
+-- sorted word by document 01's rule, and 0 where the size exceeds the width.
+pub table-of-sorted-words : (w n : ℕ) → 1 ≤ w → w ≤ 15 → n ≤ 15
+    → getD table ((w - 1) * 16 + n) 0 ≡ cond (leb n w) (wordOf (sorted w n)) 0
+table-of-sorted-words = table-ruled
 
 -- ---- wide banks: 25 bytes, widths 16 to 24 (A6)
 

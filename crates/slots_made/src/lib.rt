@@ -9,6 +9,7 @@ use nibbles::inside::judge;
 use refusal::Refusal;
 use slot_answers::Changed;
 use slot_answers::Made;
+use slots_sorted::inside::sorted;
 use turns::inside;
 
 // The word with no slot in use: slot 0 at the back goes out first.
@@ -21,7 +22,7 @@ pub fn empty(width: usize) -> Made
     if 15 < width {
         return Made::Refused(Refusal::Width);
     }
-    Made::Word(inside::sorted(width, 0))
+    Made::Word(sorted(width, 0))
 }
 
 // The word with slots 0 to n-1 in use, in order.
@@ -37,7 +38,7 @@ pub fn make_sorted(width: usize, n: usize) -> Made
     if width < n {
         return Made::Refused(Refusal::Position);
     }
-    Made::Word(inside::sorted(width, n))
+    Made::Word(sorted(width, n))
 }
 
 // A word from outside, without what strays above its width, where that is valid.

@@ -1,23 +1,22 @@
--- Moves of a bank in a word: its size, its positions, and the sorted word, by masks and shifts. Assumes nothing.
+-- Moves of a bank in a word: its size and its positions, by masks and shifts. Assumes nothing.
 use mathlib.Core.Path.{_≡_, refl, sym, ap, ap₂, _∙_, subst}
-use mathlib.Core.List.{List, _∷_, _++_, reverse, reverse-append}
+use mathlib.Core.List.{List, _∷_}
 use Prim.Native.Nat.{ℕ, suc, _+_, _-_, _*_, _/_, _%_, _^_, _≤_, _<_}
-use native.Mathlib.Nat.{mod-lt, mod-eq-of-lt, zero-lt-suc, zero-add, add-mul, mul-assoc, mul-comm}
+use native.Mathlib.Nat.{mod-lt, mod-eq-of-lt, zero-lt-suc, add-mul, mul-assoc, mul-comm}
 use native.Mathlib.Numerals.{add-one}
 use native.Mathlib.Omega.{arith}
-use lib.ListN.{length, getD, take, set, length-reverse}
-use lib.Seq.{take-at, drop-at, length-take-le, getD-take}
+use lib.ListN.{length, getD, take, set}
+use lib.Seq.{length-take-le, getD-take}
 use lib.Pow.{shl-exact, split, shr-lt, shr-shr, pow-pos, field, mod-mod-pow, mod-pow-add}
 use borrow.Author.Needs.{needs}
-use Rattle.bank.specs.Lists.{swapped, part, up}
-use Rattle.bank.specs.Bank.{Bank, sorted, insertedFromBack, resized, placeInUse}
+use Rattle.bank.specs.Lists.{swapped}
+use Rattle.bank.specs.Bank.{Bank, insertedFromBack, resized, placeInUse}
 use Rattle.bank.proofs.Counts.{place-at, place-none}
-use Rattle.bank.proofs.Sorted.{length-up, up-append, take-up, sorted-slots, sorted-size}
 use Rattle.nibbles.specs.Nibbles.{pack, nibbles}
 use Rattle.nibbles.specs.Words.{bankOf, wordOf}
-use Rattle.nibbles.proofs.Nibbles.{pow-step, low-lt, high-lt, join-lt, wider, length-nibbles, getD-nibbles, take-nibbles, pack-append, pack-nibbles, nibbles-pack, nibbles-low}
+use Rattle.nibbles.proofs.Nibbles.{pow-step, low-lt, high-lt, join-lt, wider, length-nibbles, getD-nibbles, pack-nibbles, nibbles-pack, nibbles-low}
 use Rattle.nibbles.proofs.Words.{slot-here, bank-low}
-use Rattle.turns.proofs.Moves.{part-nibbles, pack-inserted, small-set, length-put}
+use Rattle.turns.proofs.Moves.{pack-inserted, small-set, length-put}
 
 -- ---- reading a word
 
@@ -218,48 +217,3 @@ module _ (w p i j : ℕ) (hi : i < w) (hj : j < w) where
     where
       first : List ℕ
       first = set (nibbles w p) i (p / 2 ^ (4 * j) % 16)
-
--- ---- the sorted word
-
--- 14 down to 0, and the part of it that is falling from w-1 to n
-falling : (w n : ℕ) → w ≤ 15 → n ≤ w → nibbles (w - n) (0x012_3456_789A_BCDE / 2 ^ (4 * (15 - w))) ≡ reverse (up n (w - n))
-unfolding nibbles up
-falling w n h l =
-    ap (λ (k : ℕ). nibbles k (0x012_3456_789A_BCDE / 2 ^ (4 * (15 - w)))) (let e : w - n ≡ 15 - n - (15 - w) = omega arith in e)
-    ∙ sym (part-nibbles (15 - w) (15 - n) 15 0x012_3456_789A_BCDE (omega arith) (omega arith))
-    ∙ ap (part (15 - w) (15 - n)) runs
-    ∙ ap (take (15 - n - (15 - w))) (drop-at (reverse (up w (15 - w))) (reverse (up n (w - n)) ++ reverse (up 0 n)) (15 - w)
-    (length-reverse (up w (15 - w)) ∙ length-up w (15 - w)))
-    ∙ take-at (reverse (up n (w - n))) (reverse (up 0 n)) (15 - n - (15 - w))
-    (length-reverse (up n (w - n)) ∙ length-up n (w - n) ∙ (let e : w - n ≡ 15 - n - (15 - w) = omega arith in e))
-  where
-    runs : reverse (up 0 15) ≡ reverse (up w (15 - w)) ++ (reverse (up n (w - n)) ++ reverse (up 0 n))
-    runs =
-        ap reverse
-        (ap (up 0) (let e : 15 ≡ w + (15 - w) = omega arith in e)
-        ∙ up-append 0 w (15 - w)
-        ∙ ap₂ (λ (k s : ℕ). up 0 k ++ up s (15 - w)) (let e : w ≡ n + (w - n) = omega arith in e) (zero-add w))
-        ∙ reverse-append (up 0 (n + (w - n))) (up w (15 - w))
-        ∙ ap (λ (l : List ℕ). reverse (up w (15 - w)) ++ l)
-        (ap reverse (up-append 0 n (w - n) ∙ ap (λ (s : ℕ). up 0 n ++ up s (w - n)) (zero-add n)) ∙ reverse-append (up 0 n) (up n (w - n)))
-
-rising : (n : ℕ) → n ≤ 16 → up 0 n ≡ nibbles n 0xFEDC_BA98_7654_3210
-unfolding nibbles up
-rising n h = sym (take-up 0 n 16 h) ∙ take-nibbles n 16 0xFEDC_BA98_7654_3210 h
-
-pub sorted-here : (w n : ℕ) → w ≤ 15 → n ≤ w
-    → (0x012_3456_789A_BCDE / 2 ^ (4 * (15 - w)) % 2 ^ (4 * (w - n)) * 2 ^ (4 * n) + 0xFEDC_BA98_7654_3210 % 2 ^ (4 * n)) * 16 + n
-    ≡ wordOf (sorted w n)
-unfolding pack
-sorted-here w n h l =
-    rw (
-      sorted-size w n l,
-      sorted-slots w n l,
-      pack-append,
-      length-up,
-      ← falling w n h l,
-      pack-nibbles,
-      rising n
-          (omega arith),
-      pack-nibbles,
-    )

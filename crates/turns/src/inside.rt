@@ -1,11 +1,11 @@
-// Slot words made from slot words: positions turned, set and exchanged, the size changed, and the sorted word. What a caller must
-// know stands in `requires`. What a caller reads of a word, its size and one nibble, is passed on from the crate below.
+// Slot words made from slot words: positions turned, set and exchanged, the size changed. What a caller must know stands in `requires`.
+// What a caller reads of a word, its size and one nibble, is passed on from the crate below.
 ghost use mathlib.Core.Path.{_≡_};
 ghost use mathlib.Core.List.{_∷_};
 ghost use Prim.Native.Nat.{ℕ, _+_, _-_, _*_, _/_, _%_, _^_, _≤_, _<_};
 ghost use lib.ListN.{set};
 ghost use Rattle.bank.specs.Lists.{turned};
-ghost use Rattle.bank.specs.Bank.{sorted, insertedFromBack, exchanged, resized, placeInUse};
+ghost use Rattle.bank.specs.Bank.{insertedFromBack, exchanged, resized, placeInUse};
 ghost use Rattle.nibbles.specs.Nibbles.{pack, nibbles};
 ghost use Rattle.nibbles.specs.Words.{bankOf, wordOf};
 use nibbles::inside::high;
@@ -13,12 +13,6 @@ use nibbles::inside::join;
 use nibbles::inside::low;
 pub use nibbles::inside::nibble;
 pub use nibbles::inside::size_of;
-
-// Nibble i is i.
-const RISING: u64 = 0xFEDC_BA98_7654_3210;
-
-// Nibble i is 14 - i.
-const FALLING: u64 = 0x012_3456_789A_BCDE;
 
 // Nibbles a to c-1 become old b to c-1, then old a to b-1.
 pub fn turn(x: u64, width: usize, a: usize, b: usize, c: usize) -> u64
@@ -118,14 +112,4 @@ pub fn place(word: u64, width: usize, slot: usize) -> usize
         i += 1;
     }
     i
-}
-
-// The sorted word with n slots in use.
-pub fn sorted(width: usize, n: usize) -> u64
-    requires { ⌜ (n ≤ width) × (width ≤ 15) ⌝ }
-    ensures { λ r. ⌜ r ≡ wordOf (sorted width n) ⌝ }
-{
-    let taken = low(RISING, n);
-    let free = low(high(FALLING, 15 - width), width - n);
-    join(n as u64, join(taken, free, n), 1)
 }
