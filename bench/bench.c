@@ -6,15 +6,15 @@
 
 #include "../include/cherchivola.h"
 
-typedef uint64_t insertion(uint64_t *word, size_t width, size_t i, size_t *slot);
+typedef uint64_t insertion(uint64_t *word, size_t width, size_t i, size_t *slot, size_t *resting);
 
 /* The Rust's own insertion with no judgement, and after the same judgement by plain loops (peers.rs). */
-uint64_t rust_unchecked(uint64_t *word, size_t width, size_t i, size_t *slot);
-uint64_t rust_judged(uint64_t *word, size_t width, size_t i, size_t *slot);
+uint64_t rust_unchecked(uint64_t *word, size_t width, size_t i, size_t *slot, size_t *resting);
+uint64_t rust_judged(uint64_t *word, size_t width, size_t i, size_t *slot, size_t *resting);
 
 /* What a call costs by itself. */
-__attribute__((noinline)) static uint64_t nothing(uint64_t *word, size_t width, size_t i, size_t *slot) {
-    __asm__ volatile("" : : "r"(word), "r"(width), "r"(i), "r"(slot) : "memory");
+__attribute__((noinline)) static uint64_t nothing(uint64_t *word, size_t width, size_t i, size_t *slot, size_t *resting) {
+    __asm__ volatile("" : : "r"(word), "r"(width), "r"(i), "r"(slot), "r"(resting) : "memory");
     return 0;
 }
 
@@ -33,12 +33,12 @@ int main(int argc, char **argv) {
     }
     long calls = atol(argv[2]);
     uint64_t word = 0, sum = 0, refused = 0;
-    size_t slot = 0;
+    size_t slot = 0, resting = 0;
     for (long n = 0; n < calls; n++) {
         /* seven slots in use, in an order that no simple rule makes */
         word = UINT64_C(0x526A0189D4B7EC37);
-        refused += insert(&word, 15, (size_t)n & 7, &slot);
-        sum += word ^ slot;
+        refused += insert(&word, 15, (size_t)n & 7, &slot, &resting);
+        sum += word ^ slot ^ resting;
     }
     printf("%llx %llu refused\n", (unsigned long long)sum, (unsigned long long)refused);
     return 0;

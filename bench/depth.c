@@ -25,15 +25,15 @@ static ucontext_t here, there;
 /* Two keys of 256 bytes that differ in the last, and numbers to lend. */
 static uint8_t one[256], other[256], bank[25];
 static uint64_t word, ikey, child, frame, lacking, entries, order, ikeys[15], children[16];
-static size_t told, shifts, start, n, c, blocks;
+static size_t told, shifts, start, n, c, blocks, resting;
 
 /* The calls, each with what makes it go deep. */
 static void nothing(void) {}
-static void insert_from_back(void) { cherchivola_insert_from_back(&word, 15, 0, &told); }
+static void insert_from_back(void) { cherchivola_insert_from_back(&word, 15, 0, &told, &n); }
 static void rotate(void) { cherchivola_rotate(&word, 15, 0, 3); }
 static void exchange(void) { cherchivola_exchange(&word, 15, 0, 3); }
 static void remove_slot(void) { cherchivola_remove_slot(&word, 15, 0); }
-static void wide_insert(void) { cherchivola_wide_insert_from_back(bank, 24, 0, &told); }
+static void wide_insert(void) { cherchivola_wide_insert_from_back(bank, 24, 0, &told, &n); }
 static void wide_rotate(void) { cherchivola_wide_rotate(bank, 24, 0, 3); }
 static void wide_remove_slot(void) { cherchivola_wide_remove_slot(bank, 24, 0); }
 static void wide_make_sorted(void) { cherchivola_wide_make_sorted(24, 5, bank); }
@@ -51,7 +51,7 @@ static void count(void) { cherchivola_count(LENT, &entries); }
 static void audit(void) { cherchivola_audit(LENT); }
 static void find(void) { cherchivola_find(LENT, other, 256, &frame); }
 static void kth(void) { cherchivola_kth(LENT, 0, &child, &order, &frame); }
-static void put(void) { cherchivola_put(LENT, other, 256, 7, &lacking); }
+static void put(void) { cherchivola_put(LENT, other, 256, 7, &resting, &lacking); }
 static void remove_key(void) { cherchivola_remove_key(LENT, other, 256); }
 static void save(void) { cherchivola_save(LENT, image, sizeof image, &blocks); }
 static void load(void) { cherchivola_load(LENT, image, 512 * blocks, &entries, &lacking); }
@@ -89,10 +89,11 @@ static void long_way(void) {
         for (size_t k = 0; k < 15; k++) {
             memset(label, 'a', 8 * layer), memset(label + 8 * layer, 0, 8);
             label[8 * layer] = (uint8_t)k;
-            if (cherchivola_put(LENT, label, 8 * layer + 8, 7, &lacking) != 0) exit(2);
+            if (cherchivola_put(LENT, label, 8 * layer + 8, 7, &resting, &lacking) != 0) exit(2);
         }
     }
-    if (cherchivola_put(LENT, one, 256, 7, &lacking) != 0 || cherchivola_put(LENT, other, 256, 7, &lacking) != 0) exit(2);
+    if (cherchivola_put(LENT, one, 256, 7, &resting, &lacking) != 0) exit(2);
+    if (cherchivola_put(LENT, other, 256, 7, &resting, &lacking) != 0) exit(2);
 }
 
 /* The six calls that audit, on memory as it is and as the put leaves it; and a load of what was saved. */
@@ -117,13 +118,13 @@ int main(void) {
     tell("compare_keys, 256 bytes", compare_keys);
     tell("insert_key_and_child", insert_key), tell("find_insert_position", find_position), tell("child_for", child_for);
     tell("compare_key", compare_key), tell("lengths", lengths), tell("clear", clear), tell("count", count);
-    cherchivola_put(LENT, one, 256, 7, &lacking);
+    cherchivola_put(LENT, one, 256, 7, &resting, &lacking);
     printf("one node, and a key of 256 bytes that becomes 32 layers\n");
     tell_index();
     for (size_t k = 0; k < sizeof layers / sizeof *layers; k++) {
         memset(other, 'a', sizeof other), other[8 * layers[k] - 8] = 'b';
         cherchivola_clear(LENT);
-        cherchivola_put(LENT, one, 256, 7, &lacking);
+        cherchivola_put(LENT, one, 256, 7, &resting, &lacking);
         printf("one node, and a key of 256 bytes that becomes %zu layers\n", layers[k]);
         tell_index();
     }

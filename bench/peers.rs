@@ -1,23 +1,37 @@
-//! The Rust's `insert_from_back` at width 15 for C: as it is, and after the port's judgement by plain loops. Beside it the same on a wide
-//! bank, which the Rust does not have, in plain Rust. The root that bench/run writes puts the Rust's own file in as `permuter`.
+//! The Rust's `insert_from_back` at width 15 for C, with how many rest by its own size: as it is, and after the port's judgement by plain
+//! loops. Beside it the same on a wide bank, which the Rust does not have, in plain Rust. The root that bench/run writes puts the Rust's
+//! own file in as `permuter`.
 
 use crate::permuter::Permuter;
 
 #[no_mangle]
-pub extern "C" fn rust_unchecked(word: &mut u64, _width: usize, i: usize, slot: &mut usize) -> u64 {
+pub extern "C" fn rust_unchecked(
+    word: &mut u64,
+    _width: usize,
+    i: usize,
+    slot: &mut usize,
+    resting: &mut usize,
+) -> u64 {
     let mut permuter = Permuter::<15>::from_value(*word);
     *slot = permuter.insert_from_back(i);
+    *resting = 15 - permuter.size();
     *word = permuter.value();
     0
 }
 
 #[no_mangle]
-pub extern "C" fn rust_judged(word: &mut u64, width: usize, i: usize, slot: &mut usize) -> u64 {
+pub extern "C" fn rust_judged(
+    word: &mut u64,
+    width: usize,
+    i: usize,
+    slot: &mut usize,
+    resting: &mut usize,
+) -> u64 {
     let number = judged(*word, width, i);
     if number != 0 {
         return number;
     }
-    rust_unchecked(word, width, i, slot)
+    rust_unchecked(word, width, i, slot, resting)
 }
 
 /// Refusals 1, 2, 4 and 5, the lowest first.
@@ -59,7 +73,13 @@ fn is_valid(word: u64, width: usize) -> bool {
 
 /// An insertion into a wide bank, after the port's judgement by a plain loop.
 #[no_mangle]
-pub extern "C" fn plain_wide(bank: &mut [u8; 25], width: usize, i: usize, slot: &mut usize) -> u64 {
+pub extern "C" fn plain_wide(
+    bank: &mut [u8; 25],
+    width: usize,
+    i: usize,
+    slot: &mut usize,
+    resting: &mut usize,
+) -> u64 {
     let number = judged_wide(bank, width, i);
     if number != 0 {
         return number;
@@ -69,6 +89,7 @@ pub extern "C" fn plain_wide(bank: &mut [u8; 25], width: usize, i: usize, slot: 
     bank[i + 1] = last;
     bank[0] += 1;
     *slot = last as usize;
+    *resting = width - bank[0] as usize;
     0
 }
 

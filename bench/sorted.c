@@ -16,8 +16,9 @@ static uint8_t full_bytes[CHERCHIVOLA_KEY_BYTES(CELLS)];
 
 /* One label of a byte; refused calls end the program. */
 static void put(uint8_t label) {
+    size_t resting;
     uint64_t lacking;
-    if (cherchivola_put(LENT, &label, 1, label, &lacking) != 0) exit(2);
+    if (cherchivola_put(LENT, &label, 1, label, &resting, &lacking) != 0) exit(2);
 }
 
 static uint64_t nothing(long n) { return (uint64_t)n; }

@@ -6,14 +6,14 @@
 
 #include "../include/cherchivola.h"
 
-typedef uint64_t insertion(uint8_t bank[25], size_t width, size_t i, size_t *slot);
+typedef uint64_t insertion(uint8_t bank[25], size_t width, size_t i, size_t *slot, size_t *resting);
 
 /* The same in plain Rust, after the same judgement by a loop (peers.rs). */
-uint64_t plain_wide(uint8_t bank[25], size_t width, size_t i, size_t *slot);
+uint64_t plain_wide(uint8_t bank[25], size_t width, size_t i, size_t *slot, size_t *resting);
 
 /* What a call costs by itself. */
-__attribute__((noinline)) static uint64_t nothing(uint8_t bank[25], size_t width, size_t i, size_t *slot) {
-    __asm__ volatile("" : : "r"(bank), "r"(width), "r"(i), "r"(slot) : "memory");
+__attribute__((noinline)) static uint64_t nothing(uint8_t bank[25], size_t width, size_t i, size_t *slot, size_t *resting) {
+    __asm__ volatile("" : : "r"(bank), "r"(width), "r"(i), "r"(slot), "r"(resting) : "memory");
     return 0;
 }
 
@@ -34,12 +34,12 @@ int main(int argc, char **argv) {
     long calls = atol(argv[2]);
     uint8_t bank[25];
     uint64_t sum = 0, refused = 0;
-    size_t slot = 0;
+    size_t slot = 0, resting = 0;
     for (long n = 0; n < calls; n++) {
         memcpy(bank, start, sizeof bank);
-        refused += insert(bank, 24, (size_t)n % 13, &slot);
+        refused += insert(bank, 24, (size_t)n % 13, &slot, &resting);
         for (int k = 0; k < 25; k++) sum = 31 * sum + bank[k];
-        sum += slot;
+        sum += slot + resting;
     }
     printf("%llx %llu refused\n", (unsigned long long)sum, (unsigned long long)refused);
     return 0;

@@ -26,11 +26,11 @@ static size_t in_use(void) {
     return size;
 }
 
-/* A frame arrives: the next free buffer is handed out, and stands behind those in use. */
+/* A frame arrives: the next free buffer is handed out, and stands behind those in use. How many still rest is told with it. */
 static void capture(const char *frame) {
-    size_t buffer = 0;
-    accepted(cherchivola_insert_from_back(&bank, BUFFERS, in_use(), &buffer));
-    printf("  %s goes into buffer %zu\n", frame, buffer);
+    size_t buffer = 0, resting = 0;
+    accepted(cherchivola_insert_from_back(&bank, BUFFERS, in_use(), &buffer, &resting));
+    printf("  %s goes into buffer %zu; still resting: %zu\n", frame, buffer, resting);
 }
 
 /* Where a buffer stands: its position, which must be remembered by whoever wants to take its release back. */
@@ -117,8 +117,8 @@ int main(void) {
     capture("frame 11");
     show();
 
-    size_t buffer = 99;
-    uint64_t number = cherchivola_insert_from_back(&bank, BUFFERS, in_use(), &buffer);
-    printf("One frame more is refused %" PRIu64 ", and nothing was written: buffer is still %zu\n", number, buffer);
+    size_t buffer = 99, resting = 98;
+    uint64_t number = cherchivola_insert_from_back(&bank, BUFFERS, in_use(), &buffer, &resting);
+    printf("One frame more is refused %" PRIu64 ", and nothing was written: buffer is still %zu, resting %zu\n", number, buffer, resting);
     return number == CHERCHIVOLA_FULL ? 0 : 1;
 }

@@ -25,8 +25,9 @@ static uint8_t later_bytes[CHERCHIVOLA_KEY_BYTES(LATER_CELLS)];
               CHERCHIVOLA_KEY_BYTES(LATER_CELLS)
 
 static void put(const char *label, uint64_t frame) {
+    size_t resting = 0;
     uint64_t lacking = 0;
-    uint64_t number = cherchivola_put(LENT, (const uint8_t *)label, strlen(label), frame, &lacking);
+    uint64_t number = cherchivola_put(LENT, (const uint8_t *)label, strlen(label), frame, &resting, &lacking);
     if (number != CHERCHIVOLA_ACCEPTED) printf("put %s: refused %" PRIu64 "\n", label, number);
 }
 

@@ -29,10 +29,13 @@ static void said(uint64_t number) {
 }
 
 static void put(const char *label, uint64_t frame) {
+    size_t resting = 0;
     uint64_t lacking = 0;
-    uint64_t number = cherchivola_put(LENT, LABEL(label), frame, &lacking);
+    uint64_t number = cherchivola_put(LENT, LABEL(label), frame, &resting, &lacking);
     printf("put %s %" PRIu64 ": ", label, frame);
-    if (number == CHERCHIVOLA_FEW_NODES) {
+    if (number == CHERCHIVOLA_ACCEPTED) {
+        printf("ok, %zu slots rest\n", resting);
+    } else if (number == CHERCHIVOLA_FEW_NODES) {
         printf("refused, %" PRIu64 " nodes lacking\n", lacking);
     } else {
         said(number);

@@ -27,15 +27,16 @@ static size_t in_use(void) {
     return size;
 }
 
-/* So many frames arrive: each takes the next free buffer. */
+/* So many frames arrive: each takes the next free buffer. The last one tells how many still rest. */
 static void capture(size_t frames) {
+    size_t resting = 0;
     printf("  %zu frames go into buffers", frames);
     while (frames-- > 0) {
         size_t buffer = 0;
-        accepted(cherchivola_wide_insert_from_back(bank, BUFFERS, in_use(), &buffer));
+        accepted(cherchivola_wide_insert_from_back(bank, BUFFERS, in_use(), &buffer, &resting));
         printf(" %zu", buffer);
     }
-    printf("\n");
+    printf("; still resting: %zu\n", resting);
 }
 
 /* A frame was stored on the card: its buffer rests behind all other free ones. */
@@ -62,7 +63,7 @@ static void show(void) {
 
 int main(void) {
     uint8_t before[25];
-    size_t buffer = 99;
+    size_t buffer = 99, resting = 98;
     printf("24 buffers, none in use\n");
     accepted(cherchivola_wide_empty(BUFFERS, bank));
     show();
@@ -79,8 +80,8 @@ int main(void) {
     printf("A true burst takes all that rest\n");
     capture(6);
     show();
-    printf("One frame more is refused %" PRIu64 ", and nothing was written: buffer is still %zu\n",
-           cherchivola_wide_insert_from_back(bank, BUFFERS, in_use(), &buffer), buffer);
+    uint64_t number = cherchivola_wide_insert_from_back(bank, BUFFERS, in_use(), &buffer, &resting);
+    printf("One frame more is refused %" PRIu64 ", and nothing was written: buffer is still %zu, resting %zu\n", number, buffer, resting);
     bank[5] = bank[6];
     printf("A buffer that stands twice: refused %" PRIu64 "\n", cherchivola_wide_from_bytes(bank, BUFFERS, before));
     return 0;

@@ -96,8 +96,11 @@ uint64_t cherchivola_exchange(uint64_t *word, size_t width, size_t i, size_t j);
 /* positions i to width-1 become old j to width-1, then old i to j-1 */
 uint64_t cherchivola_rotate(uint64_t *word, size_t width, size_t i, size_t j);
 
-/* The slot at the back is put to use at position i and written to *slot. Refused: 1, 2, 4, 5; then both are as they were. */
-uint64_t cherchivola_insert_from_back(uint64_t *word, size_t width, size_t i, size_t *slot);
+/*
+ * The slot at the back is put to use at position i and written to *slot; how many still rest, the width less the new size, is written to
+ * *resting. Refused: 1, 2, 4, 5; then all three are as they were, so that a refusal tells nothing of what rests.
+ */
+uint64_t cherchivola_insert_from_back(uint64_t *word, size_t width, size_t i, size_t *slot, size_t *resting);
 
 /*
  * The first free slot, the one that was removed last, is put to use at position i: what was removed at i goes back. So a burst is
@@ -136,8 +139,11 @@ uint64_t cherchivola_wide_exchange(uint8_t bank[25], size_t width, size_t i, siz
 /* positions i to width-1 become old j to width-1, then old i to j-1 */
 uint64_t cherchivola_wide_rotate(uint8_t bank[25], size_t width, size_t i, size_t j);
 
-/* The slot at the back is put to use at position i and written to *slot. Refused: 1, 2, 4, 5; then both are as they were. */
-uint64_t cherchivola_wide_insert_from_back(uint8_t bank[25], size_t width, size_t i, size_t *slot);
+/*
+ * The slot at the back is put to use at position i and written to *slot; how many still rest, the width less the new size, is written to
+ * *resting. Refused: 1, 2, 4, 5; then the bank and both numbers are as they were.
+ */
+uint64_t cherchivola_wide_insert_from_back(uint8_t bank[25], size_t width, size_t i, size_t *slot, size_t *resting);
 
 /* The first free slot, the one that was removed last, is put to use at position i. Refused: 1, 2, 4, 5; then the bank is as it was. */
 uint64_t cherchivola_wide_insert_first_free(uint8_t bank[25], size_t width, size_t i);
@@ -242,11 +248,12 @@ uint64_t cherchivola_lengths(const uint64_t *nodes, size_t node_words, const uin
 uint64_t cherchivola_clear(uint64_t *nodes, size_t node_words, uint64_t *cells, size_t cell_words, uint8_t *bytes, size_t byte_count);
 
 /*
- * Stores a new key with its frame number. Refused: 7, 10, 11; 13 where no cell is free; 14 where a cell is free and the key needs more
- * nodes than are: how many more goes into *lacking. Every other answer leaves *lacking as it was. Refused, memory is as it was.
+ * Stores a new key with its frame number. How many slots rest in the leaf where the key is then, 15 less its size, goes into *resting.
+ * Refused: 7, 10, 11; 13 where no cell is free; 14 where a cell is free and the key needs more nodes than are: how many more goes into
+ * *lacking. Every other answer leaves *lacking as it was. Refused, *resting and memory are as they were.
  */
 uint64_t cherchivola_put(uint64_t *nodes, size_t node_words, uint64_t *cells, size_t cell_words, uint8_t *bytes, size_t byte_count,
-                         const uint8_t *key, size_t key_length, uint64_t frame, uint64_t *lacking);
+                         const uint8_t *key, size_t key_length, uint64_t frame, size_t *resting, uint64_t *lacking);
 
 /*
  * Takes a key out; its cell is free again, and so are the nodes of the layers below the first that this leaves empty. Refused: 7, 10, 12;

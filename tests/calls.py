@@ -3,10 +3,11 @@
 #
 #     python3 calls.py --memories 9 --calls 30 --seed 1 > ../crates/replay_index/stdin
 #
-# A line has 570 bytes: the call (m a new memory of zeros, c clear, p put, d remove, f find, k k-th, n count), its number in two hex digits, a frame
-# number in sixteen, a number in sixteen (k for k-th; the number of entries for a count; for a put the nodes lacking, 0 but with 14; for m eight digits N and eight C), the sum in
-# sixteen, the key's length in four, the key in 514 filled up with zeros, and a line feed. For k-th the key is the entry's. The sum begins with 1 and takes, for each
-# word of nodes, of cells and each byte, three times itself and the number, modulo 2^64.
+# A line has 570 bytes: the call (m a new memory of zeros, c clear, p put, d remove, f find, k k-th, n count), its number in two hex
+# digits, a frame number in sixteen, a number in sixteen (k for k-th; the number of entries for a count; for a put the slots that rest, with
+# 14 the nodes lacking, with another refusal 0; for m eight digits N and eight C), the sum in sixteen, the key's length in four, the key in
+# 514 filled up with zeros, and a line feed. For k-th the key is the entry's. The sum begins with 1 and takes, for each word of nodes, of
+# cells and each byte, three times itself and the number, modulo 2^64.
 
 import argparse
 import os
@@ -53,7 +54,7 @@ def key_of(rng, kind):
 # A put, made on the memory, as a line.
 def put_line(memory, key, frame):
     answer = index.put(memory, key, frame, audited=True)
-    return line("p", answer.number, frame, answer.lacking or 0, sum_of(memory), key)
+    return line("p", answer.number, frame, answer.lacking or answer.resting or 0, sum_of(memory), key)
 
 
 # A removal, made on the memory, as a line.

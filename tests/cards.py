@@ -128,7 +128,7 @@ class Script:
     def put_at(self, place, length, frame):
         def ask(lent):
             answer = index.put(lent, bytes(self.card[place:place + length]), frame)
-            return answer.number, answer.lacking
+            return answer.number, answer.lacking or answer.resting
         return self.call("p", ask, place=place, length=length, frame=frame)
 
     def remove_at(self, place, length):

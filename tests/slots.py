@@ -20,11 +20,11 @@ FAR = (1 << 64) - 1
 CODES = {"insert_from_back": 9, "remove": 10, "remove_to_back": 11, "remove_slot": 12, "insert_first_free": 15}
 
 
-# One line: a call and its answer; refused, the word as given.
+# One line: a call and its answer; refused, the word as given. Of these calls only an insertion from the back tells anything.
 def line(name, width, word, a, answer):
     number, left, told = answer
-    return "m %x %x %016x %016x %016x %016x %016x %04x\n" % (
-        CODES[name], number, width, word, a, 0, word if number else left, told or 0)
+    return "m %x %x %016x %016x %016x %016x %016x %04x %04x\n" % (
+        CODES[name], number, width, word, a, 0, word if number else left, *(told or (0, 0)))
 
 
 # Any valid word of this size.

@@ -3,12 +3,13 @@
 #
 #     python3 wides.py > ../crates/replay_wide/stdin
 #
-# A line has 164 bytes with its line feed, all in lower-case hex:
+# A line has 169 bytes with its line feed, all in lower-case hex:
 #
-#     KIND CALL NUMBER WIDTH BANK A B AFTER TOLD
+#     KIND CALL NUMBER WIDTH BANK A B AFTER TOLD RESTING
 #
 # KIND is h for a line by hand and m for one of the model; CALL the call's place in CALLS; NUMBER 0 or the refusal; BANK 25 bytes; AFTER the
-# bank afterwards, as given where the call is refused or only asks, zeros where one was to be made; TOLD the number told, or 0.
+# bank afterwards, as given where the call is refused or only asks, zeros where one was to be made; TOLD the number told, or 0; RESTING
+# how many are free after an insertion from the back, or 0.
 
 import os
 import random
@@ -24,10 +25,15 @@ ARGUMENTS = {"empty": 0, "from_bytes": 0, "size": 0, "back": 0, "exchange": 2, "
 ZEROS = [0] * 25
 
 
+# What a call tells as two numbers, 0 where there is none.
+def both(told):
+    return told if isinstance(told, tuple) else (told or 0, 0)
+
+
 def line(kind, name, width, bank, places, number, after, told):
     a, b = (list(places) + [0, 0])[:2]
-    return "%s %x %x %016x %s %016x %016x %s %04x\n" % (
-        kind, CALLS.index(name), number, width, bytes(bank).hex(), a, b, bytes(after).hex(), told or 0)
+    return "%s %x %x %016x %s %016x %016x %s %04x %04x\n" % (
+        kind, CALLS.index(name), number, width, bytes(bank).hex(), a, b, bytes(after).hex(), *both(told))
 
 
 # A call as the model answers it.
@@ -38,15 +44,15 @@ def asked(name, width, bank, *places):
     return line("m", name, width, ZEROS if makes else bank, places, number, after or (ZEROS if makes else bank), told)
 
 
-# A bank of width 16, by hand: the call, its places, the refusal, the number told, and the size and positions that it leaves. Each line
-# begins where the one before ended.
+# A bank of width 16, by hand: the call, its places, the refusal, the number told (of an accepted insertion from the back the slot, and how
+# many are free after it), and the size and positions that it leaves. Each line begins where the one before ended.
 BY_HAND = [
     ("empty", (), 0, 0, "00 0f 0e 0d 0c 0b 0a 09 08 07 06 05 04 03 02 01 00"),
-    ("insert_from_back", (0,), 0, 0, "01 00 0f 0e 0d 0c 0b 0a 09 08 07 06 05 04 03 02 01"),
-    ("insert_from_back", (0,), 0, 1, "02 01 00 0f 0e 0d 0c 0b 0a 09 08 07 06 05 04 03 02"),
-    ("insert_from_back", (1,), 0, 2, "03 01 02 00 0f 0e 0d 0c 0b 0a 09 08 07 06 05 04 03"),
+    ("insert_from_back", (0,), 0, (0, 15), "01 00 0f 0e 0d 0c 0b 0a 09 08 07 06 05 04 03 02 01"),
+    ("insert_from_back", (0,), 0, (1, 14), "02 01 00 0f 0e 0d 0c 0b 0a 09 08 07 06 05 04 03 02"),
+    ("insert_from_back", (1,), 0, (2, 13), "03 01 02 00 0f 0e 0d 0c 0b 0a 09 08 07 06 05 04 03"),
     ("insert_from_back", (4,), 4, 0, "03 01 02 00 0f 0e 0d 0c 0b 0a 09 08 07 06 05 04 03"),
-    ("insert_from_back", (3,), 0, 3, "04 01 02 00 03 0f 0e 0d 0c 0b 0a 09 08 07 06 05 04"),
+    ("insert_from_back", (3,), 0, (3, 12), "04 01 02 00 03 0f 0e 0d 0c 0b 0a 09 08 07 06 05 04"),
     ("size", (), 0, 4, "04 01 02 00 03 0f 0e 0d 0c 0b 0a 09 08 07 06 05 04"),
     ("get", (15,), 0, 4, "04 01 02 00 03 0f 0e 0d 0c 0b 0a 09 08 07 06 05 04"),
     ("get", (16,), 4, 0, "04 01 02 00 03 0f 0e 0d 0c 0b 0a 09 08 07 06 05 04"),
@@ -155,7 +161,7 @@ def hold_by_hand():
     for name, places, number, told, text in BY_HAND:
         after = list(bytes.fromhex(text)) + [0] * 8
         got = getattr(wides, name)(*([16] if name in ("empty", "make_sorted") else [bank, 16]), *places)
-        assert got[0] == number and (got[1] or bank) == after and (got[2] or 0) == told, (name, places, got)
+        assert got[0] == number and (got[1] or bank) == after and both(got[2]) == both(told), (name, places, got)
         bank = after
 
 

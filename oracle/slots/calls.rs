@@ -1,4 +1,4 @@
-//! The calls on a slot word, and what one of them says: a number (0 for accepted) and up to two values.
+//! The calls on a slot word, and what one of them says: a number (0 for accepted) and up to three values.
 
 #[derive(Clone, Copy, Debug, PartialEq, Eq, Hash)]
 pub enum Name {
@@ -72,19 +72,25 @@ pub struct Call {
     pub b: usize,
 }
 
-/// Accepted: 0, the new word or the number told, and the slot of an insertion. Refused: the number and the word as given.
+/// Accepted: 0, the new word or the number told, and of an insertion the slot and how many rest. Refused: the number and the word as given.
 #[derive(Clone, Copy, Debug, PartialEq, Eq, Hash)]
 pub struct Answer {
     pub number: u64,
     pub first: u64,
     pub second: u64,
+    pub third: u64,
 }
 
-pub fn accepted(first: u64, second: u64) -> Answer {
+pub fn accepted(first: u64) -> Answer {
+    inserted(first, 0, 0)
+}
+
+pub fn inserted(first: u64, second: u64, third: u64) -> Answer {
     Answer {
         number: 0,
         first,
         second,
+        third,
     }
 }
 
@@ -94,6 +100,7 @@ pub fn refused(call: &Call, number: u64) -> Answer {
         number,
         first,
         second: 0,
+        third: 0,
     }
 }
 

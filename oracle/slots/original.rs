@@ -1,6 +1,6 @@
 //! What the Rust answers: its values on the low 4(W+1) bits, or that it panicked and with which words.
 
-use crate::calls::{accepted, is_question, Answer, Call, Name};
+use crate::calls::{accepted, inserted, is_question, Answer, Call, Name};
 use crate::permuter::Permuter;
 use crate::words::cleared;
 use std::cell::RefCell;
@@ -58,7 +58,10 @@ fn low(call: &Call, whole: Answer) -> Answer {
     if is_question(call.name) {
         return whole;
     }
-    accepted(cleared(whole.first, call.width), whole.second)
+    Answer {
+        first: cleared(whole.first, call.width),
+        ..whole
+    }
 }
 
 fn at_width(call: &Call) -> Answer {
@@ -86,15 +89,15 @@ fn ask<const W: usize>(call: &Call) -> Answer {
     let Call { a, b, .. } = *call;
     let mut p = Permuter::<W>::from_value(call.word);
     match call.name {
-        Name::Empty => return accepted(Permuter::<W>::empty().value(), 0),
-        Name::MakeSorted => return accepted(Permuter::<W>::make_sorted(a).value(), 0),
-        Name::Size => return accepted(p.size() as u64, 0),
-        Name::Get => return accepted(p.get(a) as u64, 0),
-        Name::Back => return accepted(p.back() as u64, 0),
-        Name::BackAtOffset => return accepted(p.back_at_offset(a) as u64, 0),
+        Name::Empty => return accepted(Permuter::<W>::empty().value()),
+        Name::MakeSorted => return accepted(Permuter::<W>::make_sorted(a).value()),
+        Name::Size => return accepted(p.size() as u64),
+        Name::Get => return accepted(p.get(a) as u64),
+        Name::Back => return accepted(p.back() as u64),
+        Name::BackAtOffset => return accepted(p.back_at_offset(a) as u64),
         Name::InsertFromBack => {
             let slot = p.insert_from_back(a);
-            return accepted(p.value(), slot as u64);
+            return inserted(p.value(), slot as u64, (W - p.size()) as u64);
         }
         Name::InsertFromBackImmutable => {
             let (after, slot) = p.insert_from_back_immutable(a);
@@ -103,7 +106,7 @@ fn ask<const W: usize>(call: &Call) -> Answer {
                 call.word,
                 "the immutable insertion changed its word"
             );
-            return accepted(after.value(), slot as u64);
+            return inserted(after.value(), slot as u64, (W - after.size()) as u64);
         }
         Name::FromValue => {}
         Name::SetSize => p.set_size(a),
@@ -114,5 +117,5 @@ fn ask<const W: usize>(call: &Call) -> Answer {
         Name::Exchange => p.exchange(a, b),
         Name::Rotate => p.rotate(a, b),
     }
-    accepted(p.value(), 0)
+    accepted(p.value())
 }

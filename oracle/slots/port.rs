@@ -1,6 +1,6 @@
 //! What the port answers, through its C interface; and that a refused call leaves every lent number as it was.
 
-use crate::calls::{accepted, is_question, refused, Answer, Call, Name};
+use crate::calls::{accepted, inserted, is_question, refused, Answer, Call, Name};
 
 #[link(name = "firmware", kind = "static")]
 extern "C" {
@@ -18,6 +18,7 @@ extern "C" {
         width: usize,
         i: usize,
         slot: &mut usize,
+        resting: &mut usize,
     ) -> u64;
     fn cherchivola_remove(word: &mut u64, width: usize, i: usize) -> u64;
     fn cherchivola_remove_to_back(word: &mut u64, width: usize, i: usize) -> u64;
@@ -42,6 +43,7 @@ pub fn answer(call: &Call) -> Answer {
     let before = if lends_word { given } else { BLANK as u64 };
     let mut word = before;
     let mut told = BLANK;
+    let mut resting = BLANK;
     // SAFETY: every lent number is a local of this function.
     let number = unsafe {
         match name {
@@ -55,7 +57,7 @@ pub fn answer(call: &Call) -> Answer {
             Name::SetSize => cherchivola_set_size(&mut word, width, a),
             Name::SwapFreeSlots => cherchivola_swap_free_slots(&mut word, width, a, b),
             Name::InsertFromBack | Name::InsertFromBackImmutable => {
-                cherchivola_insert_from_back(&mut word, width, a, &mut told)
+                cherchivola_insert_from_back(&mut word, width, a, &mut told, &mut resting)
             }
             Name::Remove => cherchivola_remove(&mut word, width, a),
             Name::RemoveToBack => cherchivola_remove_to_back(&mut word, width, a),
@@ -66,14 +68,16 @@ pub fn answer(call: &Call) -> Answer {
     };
     if number != 0 {
         assert!(
-            word == before && told == BLANK,
+            word == before && told == BLANK && resting == BLANK,
             "{call:x?} was refused and a lent number changed"
         );
         return refused(call, number);
     }
     match name {
-        _ if is_question(name) => accepted(told as u64, 0),
-        Name::InsertFromBack | Name::InsertFromBackImmutable => accepted(word, told as u64),
-        _ => accepted(word, 0),
+        _ if is_question(name) => accepted(told as u64),
+        Name::InsertFromBack | Name::InsertFromBackImmutable => {
+            inserted(word, told as u64, resting as u64)
+        }
+        _ => accepted(word),
     }
 }

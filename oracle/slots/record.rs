@@ -1,7 +1,7 @@
 //! A fixed list of answers for the program `replay_slots`: the Rust's own, and a few that only document 01 gives.
 //!
-//! A line has 96 bytes with its line feed: the kind, the call's code, the refusal's number, and then width, word, the two
-//! arguments, the first and the second value, all in lower-case hex. Kinds: `v` values of the Rust, `p` a panic of the
+//! A line has 101 bytes with its line feed: the kind, the call's code, the refusal's number, and then width, word, the two
+//! arguments, the first, the second and the third value, all in lower-case hex. Kinds: `v` values of the Rust, `p` a panic of the
 //! Rust, `d` document 01 alone (refusals 1 and 2, of which the Rust knows nothing).
 
 use crate::calls::{arguments, refused, some_call, takes_word, Answer, Call, Name, NAMES};
@@ -50,6 +50,7 @@ impl List {
             number,
             first,
             second,
+            third,
         } = answer;
         let Call {
             name,
@@ -59,7 +60,7 @@ impl List {
             b,
         } = call;
         let name = name as u8;
-        writeln!(self.text, "{kind} {name:x} {number:x} {width:016x} {word:016x} {a:016x} {b:016x} {first:016x} {second:04x}")
+        writeln!(self.text, "{kind} {name:x} {number:x} {width:016x} {word:016x} {a:016x} {b:016x} {first:016x} {second:04x} {third:04x}")
             .expect("text grows");
     }
 

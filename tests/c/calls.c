@@ -134,8 +134,8 @@ static void call_insert_first_free(void) { returned(cherchivola_insert_first_fre
 static void call_remove_slot(void) { returned(cherchivola_remove_slot(word(0, 0), at(1), at(2))), tell_word(0); }
 
 static void call_insert_from_back(void) {
-    returned(cherchivola_insert_from_back(word(0, 0), at(1), at(2), size(0, 3)));
-    tell_word(0), tell_size(0);
+    returned(cherchivola_insert_from_back(word(0, 0), at(1), at(2), size(0, 3), size(1, 4)));
+    tell_word(0), tell_size(0), tell_size(1);
 }
 
 /* ---- wide banks: the bank is the line's first key, 25 bytes, and its width the first number; a lent number's value before is the last */
@@ -169,8 +169,8 @@ static void call_wide_from_bytes(void) {
 }
 
 static void call_wide_insert_from_back(void) {
-    returned(cherchivola_wide_insert_from_back(bank(0), at(0), at(1), size(0, 2)));
-    tell_bank(0), tell_size(0);
+    returned(cherchivola_wide_insert_from_back(bank(0), at(0), at(1), size(0, 2), size(1, 3)));
+    tell_bank(0), tell_size(0), tell_size(1);
 }
 
 /* ---- keys: a key's three numbers are the line's first three */
@@ -303,8 +303,8 @@ static void call_remove_key(void) { lend(), returned(cherchivola_remove_key(LENT
 static void call_audit(void) { lend(), returned(cherchivola_audit(LENT)), take_back(); }
 
 static void call_put(void) {
-    lend(), returned(cherchivola_put(LENT, key[0], key_length[0], at(3), word(0, 4)));
-    tell_word(0), take_back();
+    lend(), returned(cherchivola_put(LENT, key[0], key_length[0], at(3), size(0, 4), word(0, 5)));
+    tell_size(0), tell_word(0), take_back();
 }
 
 static void call_count(void) {

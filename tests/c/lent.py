@@ -147,7 +147,7 @@ class Lent:
         words, number, values = getattr(self, "ask_" + name)(lent)
         if whole and self.room is not None and name in ("put", "remove_key", "find"):
             self.agree(name, words[-1], number, values)
-        self.follow(name, words[-1:], number)
+        self.follow(name, words[-1:], number, values)
         if not whole:
             self.memory = Memory.of(*(part + every[len(part):] for part, every in (
                 (lent.nodes, self.memory.nodes), (lent.cells, self.memory.cells), (lent.bytes, self.memory.bytes))))
@@ -164,17 +164,18 @@ class Lent:
             full = len(self.map) == self.memory.cell_count()
             lacking = 0 if stored else self.room.need(key) - self.room.free
             said = 11 if stored else 13 if full else 14 if lacking > 0 else 0
-            assert said != 14 or values == (lacking,), (key, values, lacking)
+            assert said != 14 or values[1] == lacking, (key, values, lacking)
         else:
             said = 0 if stored else 12
         assert said == number, (name, key, said, number)
         assert name != "find" or number or values == (self.map[key],), (key, values)
 
-    # What an accepted call does to the map and its room.
-    def follow(self, name, key, number):
+    # What an accepted call does to the map and its room; a put tells the slots that rest by its count too.
+    def follow(self, name, key, number, values):
         if number == 0 and name == "put" and self.room is not None:
             self.map[key[0]] = self.frame
             self.room.put(key[0])
+            assert values[0] == self.room.resting(key[0]), (key, values)
         if number == 0 and name == "remove_key" and self.room is not None:
             del self.map[key[0]]
             self.room.remove(key[0])
@@ -190,9 +191,9 @@ class Lent:
 
     def ask_put(self, lent):
         key, self.frame = self.some_key(), self.rng.choice((0, TOP, self.rng.getrandbits(64)))
-        old = before(self.rng)
+        olds = before(self.rng), before(self.rng)
         answer = index.put(lent, key, self.frame)
-        return (self.frame, old, key), answer.number, (or_else(answer.lacking, old),)
+        return (self.frame, *olds, key), answer.number, (or_else(answer.resting, olds[0]), or_else(answer.lacking, olds[1]))
 
     def ask_remove_key(self, lent):
         key = self.some_key()

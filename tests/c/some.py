@@ -84,7 +84,8 @@ def slot_call(rng, name):
     if name in ASKS:
         return (word, width, *places, old), (number, or_else(told, old))
     if name == "insert_from_back":
-        return (word, width, *places, old), (number, or_else(left, word), or_else(told, old))
+        rested = old ^ TOP
+        return (word, width, *places, old, rested), (number, or_else(left, word), *or_else(told, (old, rested)))
     return (word, width, *places), (number, or_else(left, word))
 
 

@@ -58,5 +58,6 @@ def wide_call(rng, name):
     if name in ASKS:
         return (width, *places, old, bank), (number, bank, or_else(told, old))
     if name == "wide_insert_from_back":
-        return (width, *places, old, bank), (number, left_of(after, bank), or_else(told, old))
+        rested = old ^ TOP
+        return (width, *places, old, rested, bank), (number, left_of(after, bank), *or_else(told, (old, rested)))
     return (width, *places, bank), (number, left_of(after, bank))

@@ -35,6 +35,10 @@ class PlainMap:
     def lacking(self, key):
         return self.room.need(key) - self.room.free
 
+    # How many slots rest in the leaf of a stored key.
+    def resting(self, key):
+        return self.room.resting(key)
+
     # 0 and the frame, or the refusal and None.
     def find(self, key):
         if len(key) > LONGEST_KEY:

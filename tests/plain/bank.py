@@ -1,7 +1,7 @@
 # The calls on slot words, straight from document 01: lists of slots, and the refusals by rising number.
 #
 # Every call answers (number, word, told): number 0 is accepted, else the refusal; word is the word afterwards, None where the call makes or
-# leaves none; told is the number told, or None.
+# leaves none; told is the number told, or None. An insertion from the back tells two: the slot, and how many are free after it.
 
 import words
 
@@ -85,7 +85,7 @@ def swap_free_slots(word, width, i, j):
 
 def insert_from_back(word, width, i):
     return on_word(word, width, lambda size: [(POSITION, i <= size), (FULL, size < width)],
-                   lambda size, slots: (words.packed(size + 1, slots[:i] + slots[-1:] + slots[i:-1]), slots[-1]))
+                   lambda size, slots: (words.packed(size + 1, slots[:i] + slots[-1:] + slots[i:-1]), (slots[-1], len(slots[size + 1:]))))
 
 
 # The slot at position size goes to i, and positions i to size-1 move up one.

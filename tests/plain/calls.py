@@ -53,9 +53,10 @@ def random_key(rng):
     return rng.choice((key, key, key, key, rng.randrange(3000).to_bytes(2, "big"), long))
 
 
-# The line of a put: with 14 the nodes lacking stand behind the number.
+# The line of a put: with 14 the nodes lacking stand behind the number, with 0 the slots that rest.
 def put_line(key, frame, answer):
-    return "put %s %d %d" % (shown(key), frame, answer.number) + (" %d" % answer.lacking if answer.lacking else "")
+    told = answer.lacking if answer.number else answer.resting
+    return "put %s %d %d" % (shown(key), frame, answer.number) + ("" if told is None else " %d" % told)
 
 
 # Makes one random call and gives its line.

@@ -1,6 +1,7 @@
 # The index over lent memory: clear, put, find, remove, the k-th entry and the count.
 #
-# Every call answers Answer(number, key, frame, lacking, count): number 0 is accepted, else the refusal; with 14 the nodes lacking.
+# Every call answers Answer(number, key, frame, lacking, count, resting): number 0 is accepted, else the refusal; with 14 the nodes
+# lacking; of an accepted put the slots that rest in the key's leaf.
 
 from collections import namedtuple
 
@@ -14,7 +15,7 @@ TOO_LONG, NOT_A_TREE, STORED, NOT_STORED, NO_CELL, FEW_NODES = 7, 10, 11, 12, 13
 FOUND, CONFLICT, ABSENT = "found", "conflict", "absent"
 WIDTH = nodes.WIDTH
 
-Answer = namedtuple("Answer", "number key frame lacking count", defaults=(None, None, None, None))
+Answer = namedtuple("Answer", "number key frame lacking count resting", defaults=(None, None, None, None, None))
 
 # Where a key belongs. links: the links on the way, from the top, each as its leaf, its slot there and the root that it leads to. path: the
 # internodes on the way down in the last layer. leaf, position: the entry found or in conflict, or the place for a new one.
@@ -53,7 +54,12 @@ def put(memory, key, frame, audited=False):
         grow_layers(memory, place, key, free_cells[0])
     else:
         add_to_leaf(memory, place, key, free_cells[0])
-    return ACCEPTED
+    return Answer(0, resting=slots_resting(memory, key))
+
+
+# How many slots rest in the leaf where a stored key is, looked up anew.
+def slots_resting(memory, key):
+    return WIDTH - len(nodes.entries_of(memory, locate(memory, key).leaf))
 
 
 # Gives the frame number of a stored key.

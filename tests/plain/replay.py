@@ -46,9 +46,9 @@ class Replay:
         return index.clear(self.memory).number == int(number)
 
     # A put and its answer.
-    def do_put(self, key, frame, number, lacking=None):
+    def do_put(self, key, frame, number, told=None):
         answer = index.put(self.memory, key_of(key), int(frame))
-        return (answer.number, answer.lacking) == (int(number), lacking and int(lacking))
+        return (answer.number, answer.lacking if answer.number else answer.resting) == (int(number), told and int(told))
 
     # A removal and its answer.
     def do_del(self, key, number):

@@ -1,4 +1,5 @@
-# How many nodes an index would have left, counted without nodes: a second opinion on refusal 14.
+# How many nodes an index would have left, and slots in a leaf, counted without nodes: a second opinion on refusal 14 and on the slots that
+# rest after a put.
 #
 # A layer is a set of entries, and a row of separators between its leaves, each with a height: those of height 1
 # stand just above the leaves. The separators of one height between two higher ones are one internode.
@@ -92,6 +93,11 @@ class Room:
         else:
             layer.separators, layer.height, _ = layer.with_entry(entry)
             layer.entries[entry] = key
+
+    # How many slots rest in the leaf where a stored key is.
+    def resting(self, key):
+        layer, number = self.layer_of(key)
+        return FULL - len(layer.leaf_of(ikey_at(key, number)))
 
     # Takes a stored key out, and each layer below the first that has no entry then and was never split.
     def remove(self, key):

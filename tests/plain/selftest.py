@@ -74,11 +74,11 @@ def check_words(scale):
 def check_bank(scale):
     p1, p2, p3 = 0x0123456789ABCDE0, 0x123456789ABCDE01, 0x23456789ABCDE012
     same(bank.empty(15), (0, p1, None), "P1")
-    same((bank.insert_from_back(p1, 15, 0), bank.insert_from_back(p2, 15, 0)), ((0, p2, 0), (0, p3, 1)), "P2 and P3")
+    same((bank.insert_from_back(p1, 15, 0), bank.insert_from_back(p2, 15, 0)), ((0, p2, (0, 14)), (0, p3, (1, 13))), "P2 and P3")
     same((bank.remove(p3, 15, 0), bank.remove_to_back(p3, 15, 0)), ((0, 0x23456789ABCDE101, None), (0, p2, None)), "P4 and P5")
     same((bank.insert_first_free(0x23456789ABCDE101, 15, 0), bank.insert_first_free(p1, 15, 1)[0]), ((0, p3, None), 4), "P4 taken back")
     same(bank.make_sorted(15, 15), (0, 0xEDCBA9876543210F, None), "P6")
-    same((bank.insert_from_back(0x1201, 3, 1), bank.rotate(0x2102, 3, 0, 1)), ((0, 0x2102, 1), (0, 0x0212, None)), "P7 and P8")
+    same((bank.insert_from_back(0x1201, 3, 1), bank.rotate(0x2102, 3, 0, 1)), ((0, 0x2102, (1, 1)), (0, 0x0212, None)), "P7 and P8")
     same([bank.get(p1, 16, 99)[0], bank.get(0, 3, 99)[0], bank.get(p1, 15, 15)[0]], [1, 2, 4], "the lowest number")
     full = bank.make_sorted(4, 4)[1]
     same([bank.insert_from_back(full, 4, 4)[0], bank.insert_from_back(full, 4, 5)[0], bank.remove_slot(0x3210, 3, 7)[0]], [5, 4, 2], "full")
@@ -88,8 +88,9 @@ def check_bank(scale):
         word = words.packed(rng.randint(1, width - 1), rng.sample(range(width), width))
         i = rng.randrange(words.size_of(word))
         same(bank.remove(word, width, i)[1], words.remove(word, width, i), "remove")
-        more, slot = bank.insert_from_back(word, width, i)[1:]
+        more, (slot, resting) = bank.insert_from_back(word, width, i)[1:]
         same((more, slot), (words.insert_from_back(word, width, i), bank.back(word, width)[2]), "insert")
+        same(resting, sum(bank.back_at_offset(more, width, k)[0] == 0 for k in range(width)), "as many rest")
         same(bank.remove_to_back(more, width, i)[1], word, "withdrawn")
         same(bank.remove_slot(more, width, slot), bank.remove(more, width, i), "by slot")
         fewer = bank.remove(word, width, i)[1]
@@ -139,11 +140,11 @@ def check_text(scale):
 # The longest keys: 31 nodes for the second of two that differ in the last byte, and not with 30 free.
 def check_longest(scale):
     one, two = b"x" * 255 + b"1", b"x" * 255 + b"2"
-    for n, expected in ((31, (14, 1)), (32, (0, None))):
+    for n, expected in ((31, (14, 1, None)), (32, (0, None, 13))):
         memory = run(fresh(n, 2), [(one, 1)])
         before = memory.copy()
         answer = index.put(memory, two, 2)
-        same((answer.number, answer.lacking), expected, "second long key")
+        same((answer.number, answer.lacking, answer.resting), expected, "second long key")
         same(memory.same(before), answer.number != 0, "refused means unchanged")
     same(memory.free_nodes(), [], "31 nodes taken")
     same([words.in_use(memory.word(node, 1)) for node in (0, 30, 31)], [[0], [0], [0, 1]], "chain of leaves")
@@ -247,7 +248,8 @@ def check_shapes(scale):
     for seed in range(8 * scale):
         rng, memory, plain = random.Random(seed), fresh(60, 200), PlainMap(60, 200)
         for key in layer_keys(rng, seed % 4):
-            same(index.put(memory, key, 1, audited=True).number, plain.put(key, 1), "put")
+            answer = index.put(memory, key, 1, audited=True)
+            same((answer.number, answer.resting), (plain.put(key, 1), None if answer.number else plain.resting(key)), "put")
             top = plain.room.top
             same(separators_in(memory, memory.nodes[0]), (top.height, list(top.separators)), "separators")
             if rng.random() < 0.1:
@@ -303,7 +305,8 @@ def random_call(rng, memory, plain):
         frame = rng.randrange(1 << 64)
         lacking = plain.lacking(key) if len(key) <= 256 and key not in plain.frames else 0
         number = plain.put(key, frame)
-        answer, expected = index.put(memory, key, frame), index.Answer(number, lacking=lacking if number == 14 else None)
+        resting = plain.resting(key) if number == 0 else None
+        answer, expected = index.put(memory, key, frame), index.Answer(number, lacking=lacking if number == 14 else None, resting=resting)
     elif kind == "remove":
         answer, expected = index.remove(memory, key), index.Answer(plain.remove(key))
     elif kind == "find":
@@ -475,10 +478,12 @@ def check_wides(scale):
             bank, back = start, []
             for _ in range(30):
                 name, a = rng.choice(("insert_from_back", "remove", "remove_slot")), rng.randint(0, width)
-                number, after, _ = getattr(wides, name)(bank, width, a)
+                number, after, told = getattr(wides, name)(bank, width, a)
                 if number:
                     continue
                 same(wides.judged(after, width), 0, "valid")
+                if name == "insert_from_back":
+                    same(told, (after[a + 1], len(bank[bank[0] + 1:width])), "the slot, and one rests less")
                 at = bank[1:].index(a) if name == "remove_slot" else a
                 back.append(("remove_to_back" if name == "insert_from_back" else "insert_first_free", at))
                 bank = after

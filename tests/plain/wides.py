@@ -2,7 +2,7 @@
 # last. The rules of document 01 for positions are written out here once more, on lists, and share nothing with bank.py.
 #
 # Every call answers (number, bank, told): number 0 is accepted, else the refusal; bank is the bank afterwards, None where the call makes or
-# leaves none; told is the number told, or None.
+# leaves none; told is the number told, or None. An insertion from the back tells two: the slot, and how many are free after it.
 
 WIDTH, BANK, POSITION, FULL, UNUSED = 1, 2, 4, 5, 6
 BYTES = 25
@@ -78,7 +78,10 @@ def insertion(bank, width, i):
 
 def insert_from_back(bank, width, i):
     number = insertion(bank, width, i)
-    return refused(number) if number else (0, moved(bank, width, width - 1, i, 1), bank[width])
+    if number:
+        return refused(number)
+    after = moved(bank, width, width - 1, i, 1)
+    return 0, after, (bank[width], width - after[0])
 
 
 def insert_first_free(bank, width, i):

@@ -17,7 +17,7 @@ use Rattle.arena.proofs.Measures.{right-means}
 use Rattle.forest.specs.IsTree.{Layers, IsTree, listing}
 use Rattle.forest.proofs.Cleared.{cleared-tree}
 use Rattle.model.specs.GivenBack.{allGivenBack}
-use Rattle.model.specs.Calls.{countOf, stored, with, withCount, hasCell, hasNodes, hasRoom, lacking, putDone}
+use Rattle.model.specs.Calls.{countOf, stored, with, withCount, hasCell, hasNodes, hasRoom, lacking, restsIn, putDone}
 use Rattle.model.specs.Calls.{whenAccepted, removeSaid, withoutEntry, removed}
 use Rattle.places.proofs.Found.{isSome, stored-lookup}
 use Rattle.index_counted.proofs.Kept.{put-counted, remove-counted}
@@ -74,17 +74,17 @@ remove-left true true after before = refl
 remove-left true false after before = refl
 remove-left false there after before = refl
 
-put-left : (short there cell nodes : Bool) (n : ℕ) (after before : Memory)
+put-left : (short there cell nodes : Bool) (n : ℕ) (told : List ℕ) (after before : Memory)
     → whenAccepted
     (answered
-    ((7 unless short) ∷ (10 unless true) ∷ (11 unless not there) ∷ (13 unless cell) ∷ ((14 unless nodes) telling (n ∷ [])) ∷ []) [] [])
+    ((7 unless short) ∷ (10 unless true) ∷ (11 unless not there) ∷ (13 unless cell) ∷ ((14 unless nodes) telling (n ∷ [])) ∷ []) told [])
     after before
     ≡ cond short (cond there before (cond (cell && nodes) after before)) before
-put-left true true cell nodes n after before = refl
-put-left true false true true n after before = refl
-put-left true false true false n after before = refl
-put-left true false false nodes n after before = refl
-put-left false there cell nodes n after before = refl
+put-left true true cell nodes n told after before = refl
+put-left true false true true n told after before = refl
+put-left true false true false n told after before = refl
+put-left true false false nodes n told after before = refl
+put-left false there cell nodes n told after before = refl
 
 module _ (m : Memory) (v : Layers) (t : IsTree m v) (bytes : Bytes (m .bytes)) where
   -- a call that leaves memory as it was
@@ -142,7 +142,7 @@ module _ (m : Memory) (v : Layers) (t : IsTree m v) (bytes : Bytes (m .bytes)) w
       put-leaves =
           rw (
             accepted m v t bytes,
-            put-left (leb (length key) 256) (stored m key) (hasCell m) (hasNodes m key) (lacking m key) more m,
+            put-left (leb (length key) 256) (stored m key) (hasCell m) (hasNodes m key) (lacking m key) (restsIn more key) more m,
           )
           (go (leb (length key) 256) (stored m key) (hasRoom m key) (lookup bytewise key (listing m v))
           (stored-lookup m v (t .forest) bytes key b) its-more)

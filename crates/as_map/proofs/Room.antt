@@ -10,22 +10,24 @@ use lib.Dec.{leb}
 use lib.ListN.{length, getD, drop, length-set}
 use borrow.Author.Tests.{leb-true, leb-false, le-leb, lt-leb}
 use Rattle.bank.proofs.Tests.{is-true}
-use Rattle.refusal.specs.Answer.{_unless_, _telling_, answered}
+use Rattle.refusal.specs.Answer.{_unless_, _telling_, answered, accepted}
 use Rattle.order.specs.Bytes.{Bytes, bytewise}
 use Rattle.order.specs.Map.{lookup}
 use Rattle.arena.specs.Free.{freeNodes, freeCells}
 use Rattle.arena.specs.Memory.{Memory, nodeCount, emptied}
 use Rattle.arena.proofs.Clears.{emptied-cells}
+use Rattle.forest.specs.Nodes.{slotsAt}
 use Rattle.forest.specs.Walk.{isTree}
 use Rattle.forest.specs.IsTree.{Layers, IsTree, listing}
 use Rattle.forest.proofs.Accepts.{tree-accepted}
 use Rattle.forest.proofs.Cleared.{nothing, nothing-is, cells-lent}
 use Rattle.model.specs.declared.Met.{Met}
 use Rattle.model.specs.declared.Met.the-variants.{Stored, Conflict, Missing}
-use Rattle.model.specs.Leaves.{entryPut, entryTaken}
+use Rattle.model.specs.Leaves.{entryPut, entryTaken, restOf}
 use Rattle.model.specs.GivenBack.{toGiveBack, allGivenBack}
-use Rattle.model.specs.Calls.{countOf, place, without, withoutEntry}
+use Rattle.model.specs.Calls.{countOf, place, isStored, without, withoutEntry}
 use Rattle.model.specs.Calls.{nodesOf, cellsOf, stored, needed, hasCell, hasNodes, hasRoom, lacking, with, putDone, removed}
+use Rattle.model.specs.Calls.{withEntry, restsAt, restsIn, restsPassed}
 use Rattle.places.proofs.Found.{isSome, stored-lookup}
 use Rattle.places.proofs.FreedCells.{bytes-zeros}
 use Rattle.places.proofs.Removed.{removed-frees}
@@ -35,12 +37,13 @@ use Rattle.puts.proofs.Puts as puts
 use Rattle.trees.specs.FreeNumbers.{timesIn}
 use Rattle.index_counted.proofs.Set.{free-kept}
 use Rattle.index_counted.proofs.Kept.{remove-counted}
+use Rattle.index_counted.proofs.Lent.{there, rests-passed}
 use Rattle.index_given_back.specs.GaveBack.{nodesBack}
 use Rattle.index_given_back.specs.Emptied.{emptiedLayers}
 use Rattle.index_given_back.proofs.Emptied.{back-exactly}
 use Rattle.index_given_back.proofs.All.{all-back, none-left}
 use Rattle.as_map.specs.Calls.{put, remove, Heard, done, frame, entry, counted, refusal, refused, heardOf, heard, left}
-use Rattle.as_map.specs.Calls.{cellFree, nodesEnough, roomFor, NoCell, FewNodes, Took, Freed}
+use Rattle.as_map.specs.Calls.{cellFree, nodesEnough, roomFor, NoCell, FewNodes, Took, Resting, Freed}
 use Rattle.as_map.proofs.Says.{says}
 use Rattle.as_map.proofs.After.{refusalOf}
 
@@ -56,11 +59,11 @@ new-missing (some x) e = let z : _≡_ {A = ℕ} 0 1 = cc in absurd (omega arith
 
 -- ---- the rules of a put and of a removal
 
-abbrev putRuled : Bool → Bool → Bool → Bool → Bool → ℕ → Heard
-putRuled short tree there cell nodes n =
+abbrev putRuled : Bool → Bool → Bool → Bool → Bool → ℕ → List ℕ → Heard
+putRuled short tree there cell nodes n told =
     heardOf
     (answered
-    ((7 unless short) ∷ (10 unless tree) ∷ (11 unless not there) ∷ (13 unless cell) ∷ ((14 unless nodes) telling (n ∷ [])) ∷ []) [] [])
+    ((7 unless short) ∷ (10 unless tree) ∷ (11 unless not there) ∷ (13 unless cell) ∷ ((14 unless nodes) telling (n ∷ [])) ∷ []) told [])
     (λ values. done)
 
 abbrev removeRuled : Bool → Bool → Bool → Heard
@@ -72,14 +75,14 @@ other : {h k : Heard} → h ≡ k → (refusalOf h ≡ refusalOf k → ⊥) → 
 other e d = d (ap refusalOf e)
 
 -- 13 only where all rules before it hold
-only-13 : (short tree there cell nodes : Bool) (n : ℕ) → putRuled short tree there cell nodes n ≡ refused 13
+only-13 : (short tree there cell nodes : Bool) (n : ℕ) (told : List ℕ) → putRuled short tree there cell nodes n told ≡ refused 13
     → (short ≡ true) × (tree ≡ true) × (there ≡ false) × (cell ≡ false)
-only-13 true true false false nodes n e = (refl, refl, refl, refl)
-only-13 true true false true true n e = absurd (other e (λ z. omega arith))
-only-13 true true false true false n e = absurd (other e (λ z. omega arith))
-only-13 true true true cell nodes n e = absurd (other e (λ z. omega arith))
-only-13 true false there cell nodes n e = absurd (other e (λ z. omega arith))
-only-13 false tree there cell nodes n e = absurd (other e (λ z. omega arith))
+only-13 true true false false nodes n told e = (refl, refl, refl, refl)
+only-13 true true false true true n told e = absurd (other e (λ z. omega arith))
+only-13 true true false true false n told e = absurd (other e (λ z. omega arith))
+only-13 true true true cell nodes n told e = absurd (other e (λ z. omega arith))
+only-13 true false there cell nodes n told e = absurd (other e (λ z. omega arith))
+only-13 false tree there cell nodes n told e = absurd (other e (λ z. omega arith))
 
 -- the first number that a refusal tells, else 0
 abbrev toldOf : Heard → ℕ
@@ -90,24 +93,24 @@ toldOf (counted n) = 0
 toldOf (refusal n told) = getD told 0 0
 
 -- 14 only where all rules before it hold, and with this number
-only-14 : (short tree there cell nodes : Bool) (n k : ℕ) → putRuled short tree there cell nodes n ≡ refusal 14 (k ∷ [])
+only-14 : (short tree there cell nodes : Bool) (n k : ℕ) (told : List ℕ) → putRuled short tree there cell nodes n told ≡ refusal 14 (k ∷ [])
     → (short ≡ true) × (tree ≡ true) × (there ≡ false) × (cell ≡ true) × (nodes ≡ false) × (n ≡ k)
-only-14 true true false true false n k e = (refl, refl, refl, refl, refl, ap toldOf e)
-only-14 true true false true true n k e = absurd (other e (λ z. omega arith))
-only-14 true true false false nodes n k e = absurd (other e (λ z. omega arith))
-only-14 true true true cell nodes n k e = absurd (other e (λ z. omega arith))
-only-14 true false there cell nodes n k e = absurd (other e (λ z. omega arith))
-only-14 false tree there cell nodes n k e = absurd (other e (λ z. omega arith))
+only-14 true true false true false n k told e = (refl, refl, refl, refl, refl, ap toldOf e)
+only-14 true true false true true n k told e = absurd (other e (λ z. omega arith))
+only-14 true true false false nodes n k told e = absurd (other e (λ z. omega arith))
+only-14 true true true cell nodes n k told e = absurd (other e (λ z. omega arith))
+only-14 true false there cell nodes n k told e = absurd (other e (λ z. omega arith))
+only-14 false tree there cell nodes n k told e = absurd (other e (λ z. omega arith))
 
 -- accepted only where all rules hold
-put-only : (short tree there cell nodes : Bool) (n : ℕ) → putRuled short tree there cell nodes n ≡ done
+put-only : (short tree there cell nodes : Bool) (n : ℕ) (told : List ℕ) → putRuled short tree there cell nodes n told ≡ done
     → (short ≡ true) × (tree ≡ true) × (there ≡ false) × (cell ≡ true) × (nodes ≡ true)
-put-only true true false true true n e = (refl, refl, refl, refl, refl)
-put-only true true false true false n e = absurd (other e (λ z. omega arith))
-put-only true true false false nodes n e = absurd (other e (λ z. omega arith))
-put-only true true true cell nodes n e = absurd (other e (λ z. omega arith))
-put-only true false there cell nodes n e = absurd (other e (λ z. omega arith))
-put-only false tree there cell nodes n e = absurd (other e (λ z. omega arith))
+put-only true true false true true n told e = (refl, refl, refl, refl, refl)
+put-only true true false true false n told e = absurd (other e (λ z. omega arith))
+put-only true true false false nodes n told e = absurd (other e (λ z. omega arith))
+put-only true true true cell nodes n told e = absurd (other e (λ z. omega arith))
+put-only true false there cell nodes n told e = absurd (other e (λ z. omega arith))
+put-only false tree there cell nodes n told e = absurd (other e (λ z. omega arith))
 
 remove-only : (short tree there : Bool) → removeRuled short tree there ≡ done → (short ≡ true) × (tree ≡ true) × (there ≡ true)
 remove-only true true true e = (refl, refl, refl)
@@ -121,6 +124,20 @@ unfolding entryTaken entryPut
 without-long m (Stored lf p c) = rw (length-set, length-set, length-set, length-set) refl
 without-long m (Conflict lf p c links) = refl
 without-long m (Missing holder root links) = refl
+
+-- where a key stands, so many slots of its leaf rest
+resting : (after : Memory) (key : List ℕ) → stored after key ≡ true
+    → (n : ℕ) × (restsIn after key ≡ n ∷ []) × Resting after key n
+resting after key there = go (place after key) refl there
+  where
+    go : (o : Met) → place after key ≡ o → isStored o ≡ true → (n : ℕ) × (restsAt after o ≡ n ∷ []) × Resting after key n
+    go (Stored lf p c) q s = (
+      restOf (slotsAt (after .nodes) lf .size),
+      refl,
+      record { leaf = lf; position = p; cell = c; stands = q; rests = omega arith },
+    )
+    go (Conflict lf p c links) q s = let z : _≡_ {A = ℕ} 0 1 = cc in absurd (omega arith)
+    go (Missing holder root links) q s = let z : _≡_ {A = ℕ} 0 1 = cc in absurd (omega arith)
 
 -- ---- where memory is a tree
 
@@ -142,11 +159,15 @@ module _ (m : Memory) (v : Layers) (t : IsTree m v) (bytes : Bytes (m .bytes)) (
   new-stored e = stored-lookup m v (t .forest) bytes key b ∙ ap isSome e
 
   module _ (x : ℕ) where
+    -- what an accepted put tells
+    abbrev tells : List ℕ
+    tells = restsIn (withEntry m key x) key
+
     pub put-no-cell : heard m (put key x) ≡ refused 13 → NoCell m v key
     unfolding putDone
     put-no-cell e =
         let (short, good, new, none-free) =
-        only-13 (leb (length key) 256) (isTree m) (stored m key) (hasCell m) (hasNodes m key) (lacking m key) e in
+        only-13 (leb (length key) 256) (isTree m) (stored m key) (hasCell m) (hasNodes m key) (lacking m key) tells e in
         record { short = leb-true (length key) 256 short; new = new-listed new; no-cell = no-cells cells none-free }
 
     pub no-cell-put : NoCell m v key → heard m (put key x) ≡ refused 13
@@ -157,7 +178,7 @@ module _ (m : Memory) (v : Layers) (t : IsTree m v) (bytes : Bytes (m .bytes)) (
     unfolding putDone
     put-few-nodes n e =
         let (short, good, new, cell, few, told) =
-        only-14 (leb (length key) 256) (isTree m) (stored m key) (hasCell m) (hasNodes m key) (lacking m key) n e in
+        only-14 (leb (length key) 256) (isTree m) (stored m key) (hasCell m) (hasNodes m key) (lacking m key) n tells e in
         let fits = leb-true (length key) 256 short in
         let less : length nodes < needed m key = leb-false (needed m key) (length nodes) few in
         let same : needed m key ≡ neededNodes m v key = needed-as-said m v (t .forest) bytes key b fits new in
@@ -190,7 +211,7 @@ module _ (m : Memory) (v : Layers) (t : IsTree m v) (bytes : Bytes (m .bytes)) (
     unfolding putDone
     put-took e =
         let (short, good, new, cell, enough) =
-        put-only (leb (length key) 256) (isTree m) (stored m key) (hasCell m) (hasNodes m key) (lacking m key) e in
+        put-only (leb (length key) 256) (isTree m) (stored m key) (hasCell m) (hasNodes m key) (lacking m key) tells e in
         let fits = leb-true (length key) 256 short in
         let room : hasRoom m key ≡ true = rw (cell, enough) refl in
         let (n, c) = puts.put-takes m v (t .forest) bytes key b fits x new room in
@@ -204,6 +225,30 @@ module _ (m : Memory) (v : Layers) (t : IsTree m v) (bytes : Bytes (m .bytes)) (
           cell-written = refl;
           key-written = refl;
         })
+
+    -- an accepted put tells how many slots rest where the key stands then
+    pub put-tells : heard m (put key x) ≡ done
+        → (n : ℕ) × (putDone m key x .answer ≡ accepted (n ∷ [])) × Resting (left m (put key x)) key n
+    unfolding putDone
+    put-tells e =
+        let (short, good, new, cell, enough) =
+        put-only (leb (length key) 256) (isTree m) (stored m key) (hasCell m) (hasNodes m key) (lacking m key) tells e in
+        let fits = leb-true (length key) 256 short in
+        let room : hasRoom m key ≡ true = rw (cell, enough) refl in
+        let (n, told, rest) = resting (withEntry m key x) key (there m key x bytes b fits v t new room) in
+        rw (short, good, new, cell, enough) (n, ap accepted told, rest)
+
+    -- and that is 13 where it met another key
+    pub put-tells-13 : heard m (put key x) ≡ done → (lf p c links : ℕ) → place m key ≡ Conflict lf p c links
+        → putDone m key x .answer ≡ accepted (13 ∷ [])
+    unfolding putDone
+    put-tells-13 e lf p c links q =
+        let (short, good, new, cell, enough) =
+        put-only (leb (length key) 256) (isTree m) (stored m key) (hasCell m) (hasNodes m key) (lacking m key) tells e in
+        let fits = leb-true (length key) 256 short in
+        let room : hasRoom m key ≡ true = rw (cell, enough) refl in
+        rw (short, good, new, cell, enough)
+        (ap accepted (rests-passed m key x bytes b fits v t new room ∙ ap (λ (o : Met). restsPassed m key o ∷ []) q))
 
   -- an accepted removal frees the key's cell, and the nodes of the layers that are empty without its entry
   pub remove-freed : heard m (remove key) ≡ done

@@ -15,7 +15,8 @@ use Rattle.arena.specs.Memory.{Memory, rightLengths, cleared}
 use Rattle.forest.specs.Walk.{isTree}
 use Rattle.forest.specs.IsTree.{Layers, IsTree, listing}
 use Rattle.forest.proofs.Accepts.{tree-accepted}
-use Rattle.model.specs.Calls.{place, stored, frameOf, inKeyOrder, entryOf, findSaid, kthSaid, countSaid, removed, putDone, hasCell, hasNodes, lacking}
+use Rattle.model.specs.Calls.{place, stored, frameOf, inKeyOrder, entryOf, findSaid, kthSaid, countSaid, removed, putDone}
+use Rattle.model.specs.Calls.{hasCell, hasNodes, lacking, withEntry, restsIn}
 use Rattle.views.proofs.Listed.{keyAndFrame, cells-listed}
 use Rattle.places.proofs.Found.{asList, isSome, stored-lookup, frame-lookup}
 use Rattle.as_map.specs.Calls.{Call, clear, put, find, remove, kth, count, OfBytes, Heard, done, frame, entry, counted, refusal, refused}
@@ -38,17 +39,17 @@ remove-ruled true none = refl
 remove-ruled true (some x) = refl
 remove-ruled false found = refl
 
-put-ruled : (short : Bool) (found : Option ℕ) (cell nodes : Bool) (n : ℕ)
+put-ruled : (short : Bool) (found : Option ℕ) (cell nodes : Bool) (n : ℕ) (told : List ℕ)
     → heardOf
     (answered
     ((7 unless short) ∷ (10 unless true) ∷ (11 unless not (isSome found)) ∷ (13 unless cell) ∷ ((14 unless nodes) telling (n ∷ [])) ∷ [])
-    [] []) (λ values. done)
+    told []) (λ values. done)
     ≡ cond short (whether (cond cell (cond nodes done (refusal 14 (n ∷ []))) (refused 13)) (λ y. refused 11) found) (refused 7)
-put-ruled true none true true n = refl
-put-ruled true none true false n = refl
-put-ruled true none false nodes n = refl
-put-ruled true (some x) cell nodes n = refl
-put-ruled false found cell nodes n = refl
+put-ruled true none true true n told = refl
+put-ruled true none true false n told = refl
+put-ruled true none false nodes n told = refl
+put-ruled true (some x) cell nodes n told = refl
+put-ruled false found cell nodes n told = refl
 
 -- the k-th of a list, seen through f
 kth-ruled : (f : ℕ → List ℕ × ℕ) (k : ℕ) (cells : List ℕ)
@@ -92,7 +93,7 @@ module _ (m : Memory) (v : Layers) (t : IsTree m v) (bytes : Bytes (m .bytes)) w
     unfolding putDone
     put-says x =
         rw (accepted, stored-lookup m v (t .forest) bytes key b)
-        (put-ruled (leb (length key) 256) found (hasCell m) (hasNodes m key) (lacking m key))
+        (put-ruled (leb (length key) 256) found (hasCell m) (hasNodes m key) (lacking m key) (restsIn (withEntry m key x) key))
 
   kth-says : (k : ℕ) → heard m (kth k) ≡ mapSays (roomFor m (kth k)) (listing m v) (kth k)
   unfolding kthSaid

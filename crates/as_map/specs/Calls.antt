@@ -14,7 +14,9 @@ use Rattle.arena.specs.Layout.{keyStart, markAt, keyAt, freedCell, freedKey, pu
 use Rattle.arena.specs.Free.{freeNodes, freeCells}
 use Rattle.arena.specs.Memory.{Memory, cleared}
 use Rattle.forest.specs.IsTree.{Layers, listing}
-use Rattle.model.specs.Calls.{nodesOf, cellsOf, needed, findSaid, kthSaid, countSaid, whenAccepted, withoutEntry, removed, putDone}
+use Rattle.forest.specs.Nodes.{slotsAt}
+use Rattle.model.specs.declared.Met.the-variants.{Stored}
+use Rattle.model.specs.Calls.{nodesOf, cellsOf, place, needed, findSaid, kthSaid, countSaid, whenAccepted, withoutEntry, removed, putDone}
 use Rattle.trees.specs.FreeNumbers.{timesIn}
 use Rattle.puts.specs.Needed.{neededNodes}
 
@@ -170,6 +172,14 @@ pub record Took (m : Memory) (v : Layers) (key : List ℕ) (x : ℕ) (after : Me
   pub cell-taken : freeCells (after .cells) (cellsOf m) ≡ drop 1 (freeCells (m .cells) (cellsOf m))
   pub cell-written : after .cells ≡ putCell (m .cells) (getD (freeCells (m .cells) (cellsOf m)) 0 0) (length key) x
   pub key-written : after .bytes ≡ putKey (m .bytes) (getD (freeCells (m .cells) (cellsOf m)) 0 0) key
+
+-- The key stands in a leaf of memory, at a position, with its cell, and n of that leaf's 15 slots rest.
+pub record Resting (after : Memory) (key : List ℕ) (n : ℕ) : Type 0 where
+  pub leaf : ℕ
+  pub position : ℕ
+  pub cell : ℕ
+  pub stands : place after key ≡ Stored leaf position cell
+  pub rests : slotsAt (after .nodes) leaf .size + n ≡ 15
 
 -- A removal freed cell c, which had the key: its words and bytes are zero, and every other cell is as it was. Beside the nodes that were
 -- free these are free, and no other: each number is that much more often among the free ones.

@@ -2,7 +2,7 @@
 use mathlib.Core.Path.{_≡_, refl, sym, ap, ap₂, _∙_, subst}
 use mathlib.Core.Bool.{Bool, true, false, cond, _&&_}
 use mathlib.Core.List.{List, [], _∷_, _++_, append-nil}
-use Prim.Native.Nat.{ℕ, _<_}
+use Prim.Native.Nat.{ℕ, _+_, _-_, _<_}
 use native.Mathlib.Omega.{arith}
 use lib.ListN.{length, getD, take, drop, length-take}
 use lib.Seq.{getD-take}
@@ -10,7 +10,7 @@ use lib.Dec.{T}
 use borrow.Author.Tests.{ne-eqb}
 use Rattle.refusal.specs.Answer.{Answer, Rule, accepted, allHold}
 use Rattle.refusal.proofs.Laws.{accepted-if, positive, Refused, refused-if}
-use Rattle.bank.specs.Bank.{Bank}
+use Rattle.bank.specs.Bank.{Bank, width}
 use Rattle.bank.specs.Calls.{
   Change,
   fromValue,
@@ -26,6 +26,7 @@ use Rattle.bank.specs.Calls.{
   changeRules,
   after,
   handedOut,
+  toldBeside,
 }
 use Rattle.bank.specs.History.{
   Done,
@@ -50,7 +51,7 @@ use Rattle.bank.specs.History.{
   bankDoes,
   free,
 }
-use Rattle.bank.specs.Holder.{Holder, heldRules, changedIn, heldDoes}
+use Rattle.bank.specs.Holder.{Holder, handedOf, heldRules, changedIn, heldDoes}
 use Rattle.bank.proofs.Kept.{Fits, fits-after}
 use Rattle.bank.proofs.History.{opposite}
 use Rattle.bank.proofs.History as banks
@@ -94,10 +95,23 @@ numbered-change (exchange i j) b = tt
 numbered-change (rotate i j) b = tt
 
 -- the opposite of a call of a history tells nothing beside the bank
-none-told : (c : Call) (b next : Bank) → handedOut (opposite c b) next ≡ []
+none-told : (c : Call) (b next : Bank) → toldBeside (opposite c b) next ≡ []
 none-told (inserting i) b next = refl
 none-told (removing i) b next = refl
 none-told (removingSlot s) b next = refl
+
+-- of what a change tells beside the bank, the first is what it hands out
+first-handed : (c : Change) (b : Bank) → handedOf (toldBeside c b) ≡ handedOut c b
+first-handed fromValue b = refl
+first-handed (setSize n) b = refl
+first-handed (swapFreeSlots i j) b = refl
+first-handed (insertFromBack i) b = refl
+first-handed (insertFirstFree i) b = refl
+first-handed (remove i) b = refl
+first-handed (removeToBack i) b = refl
+first-handed (removeSlot s) b = refl
+first-handed (exchange i j) b = refl
+first-handed (rotate i j) b = refl
 
 -- the k-th of a list that is the beginning of another
 pub of-prefix : (xs ys : List ℕ) → xs ≡ take (length xs) ys → (k : ℕ) → k < length xs → (k < length ys) × (getD xs k 0 ≡ getD ys k 0)
@@ -116,7 +130,7 @@ module _ {Held : Type 0} (h : Holder Held) (w : ℕ) (Whole : Held → Type 0) (
     rulesOf = heldRules h held (changeRules c (h .bankOf held))
 
     abbrev valuesOf : List ℕ
-    valuesOf = h .values (h .heldOf (after c (h .bankOf held))) ++ handedOut c (h .bankOf held)
+    valuesOf = h .values (h .heldOf (after c (h .bankOf held))) ++ toldBeside c (h .bankOf held)
 
     -- which rules are left where the judgement passes
     pub own-rules : Fine h held → allHold rulesOf ≡ allHold (changeRules c (h .bankOf held))
@@ -155,7 +169,7 @@ module _ {Held : Type 0} (h : Holder Held) (w : ℕ) (Whole : Held → Type 0) (
         rw (r .given, ne-eqb (changedIn h held c .number) 0 (λ z. omega (arith, r .numbered)))
         (same [] []
         (ap (h .read) (sym (append-nil (h .values held))) ∙ encodes .read-again held [] whole)
-        (ap (drop (h .places)) (sym (append-nil (h .values held))) ∙ encodes .rest held [] whole))
+        (ap handedOf (ap (drop (h .places)) (sym (append-nil (h .values held))) ∙ encodes .rest held [] whole)))
 
     pub does-so : allHold rulesOf ≡ true → Whole (h .heldOf (after c (h .bankOf held)))
         → heldDoes h c held ≡ as-held (did c (h .bankOf held))
@@ -163,8 +177,9 @@ module _ {Held : Type 0} (h : Holder Held) (w : ℕ) (Whole : Held → Type 0) (
     does-so e next =
         rw (answers-if e)
         (same (releasedBy c (h .bankOf held)) (oppositesOf c (h .bankOf held))
-        (encodes .read-again (h .heldOf (after c (h .bankOf held))) (handedOut c (h .bankOf held)) next)
-        (encodes .rest (h .heldOf (after c (h .bankOf held))) (handedOut c (h .bankOf held)) next))
+        (encodes .read-again (h .heldOf (after c (h .bankOf held))) (toldBeside c (h .bankOf held)) next)
+        (ap handedOf (encodes .rest (h .heldOf (after c (h .bankOf held))) (toldBeside c (h .bankOf held)) next)
+        ∙ first-handed c (h .bankOf held)))
 
   -- ---- at a good width a bank goes through a history as its holder does
 
@@ -282,17 +297,19 @@ module _ {Held : Type 0} (h : Holder Held) (w : ℕ) (Whole : Held → Type 0) (
     kth steps =
         of-prefix (ran (heldDoes h) steps held .handed) (free (h .bankOf held) ++ ran (heldDoes h) steps held .released) (in-order steps)
 
-  -- ---- an accepted call: the judgement passes, its own rules hold, and what is told first holds the bank after it
+  -- ---- an accepted call: the judgement passes, its own rules hold, what is told first holds the bank after it, and the rest is told
+  -- beside it
 
   module _ (held : Held) (c : Change) where
-    pub record Accepted (next : Held) : Type 0 where
+    pub record Accepted (next : Held) (told : List ℕ) : Type 0 where
       pub fine : Fine h held
       pub rules : allHold (changeRules c (h .bankOf held)) ≡ true
       pub fits : Fits w (after c (h .bankOf held))
       pub is-next : next ≡ h .heldOf (after c (h .bankOf held))
+      pub is-told : told ≡ toldBeside c (h .bankOf held)
 
     pub accepted-so : (next : Held) (told : List ℕ) → Whole held → Whole next → changedIn h held c ≡ accepted (h .values next ++ told)
-        → Accepted next
+        → Accepted next told
     accepted-so next told whole t e = by (h .goodWidth) (h .valid held) (allHold (changeRules c (h .bankOf held))) refl refl refl
       where
         refused : allHold (rulesOf c held) ≡ false → ⊥
@@ -300,24 +317,39 @@ module _ {Held : Type 0} (h : Holder Held) (w : ℕ) (Whole : Held → Type 0) (
             let z : 0 < 0 = subst (λ (a : Answer). 0 < a .number) e (answers-not c held d .numbered) in
             omega arith
 
-        taken : Fine h held → allHold (changeRules c (h .bankOf held)) ≡ true → Accepted next
+        taken : Fine h held → allHold (changeRules c (h .bankOf held)) ≡ true → Accepted next told
         taken f g =
             let fits = fits-after w (h .bankOf held) (encodes .fits held whole f) c g in
             let p = encodes .packed (f .good) (after c (h .bankOf held)) fits in
+            let same = sym e ∙ answers-if c held (own-rules c held f ∙ g) in
             record {
               fine = f;
               rules = g;
               fits = fits;
               is-next = sym (encodes .read-again next told t)
-                  ∙ ap (λ (a : Answer). h .read (a .values)) (sym e ∙ answers-if c held (own-rules c held f ∙ g))
-                  ∙ encodes .read-again (h .heldOf (after c (h .bankOf held))) (handedOut c (h .bankOf held)) (p .whole);
+                  ∙ ap (λ (a : Answer). h .read (a .values)) same
+                  ∙ encodes .read-again (h .heldOf (after c (h .bankOf held))) (toldBeside c (h .bankOf held)) (p .whole);
+              is-told = sym (encodes .rest next told t)
+                  ∙ ap (λ (a : Answer). drop (h .places) (a .values)) same
+                  ∙ encodes .rest (h .heldOf (after c (h .bankOf held))) (toldBeside c (h .bankOf held)) (p .whole);
             }
 
-        by : (p q r : Bool) → h .goodWidth ≡ p → h .valid held ≡ q → allHold (changeRules c (h .bankOf held)) ≡ r → Accepted next
+        by : (p q r : Bool) → h .goodWidth ≡ p → h .valid held ≡ q → allHold (changeRules c (h .bankOf held)) ≡ r → Accepted next told
         by true true true d v g = taken (record { good = d; valid = v }) g
         by true true false d v g = absurd (refused (own-rules c held (record { good = d; valid = v }) ∙ g))
         by true false r d v g = absurd (refused (not-all c held (ap₂ _&&_ d v)))
         by false q r d v g = absurd (refused (not-all c held (ap (λ (x : Bool). x && h .valid held) d)))
+
+  -- how many rest after an accepted insertion from the back, and the size of the bank that it leaves, make up the width
+  pub rest-told : (held : Held) → Whole held → (i : ℕ) (next : Held) (slot resting : ℕ) → Whole next
+      → changedIn h held (insertFromBack i) ≡ accepted (h .values next ++ slot ∷ resting ∷ []) → h .bankOf next .size + resting ≡ w
+  rest-told held whole i next slot resting t e =
+      let a = accepted-so held (insertFromBack i) next (slot ∷ resting ∷ []) whole t e in
+      let p = encodes .packed (a .fine .good) (after (insertFromBack i) (h .bankOf held)) (a .fits) in
+      let size : h .bankOf next .size ≡ h .bankOf held .size + 1 =
+      ap (λ (x : Held). h .bankOf x .size) (a .is-next) ∙ ap (λ (b : Bank). b .size) (p .unpacked) in
+      let told : resting ≡ width (h .bankOf held) - (h .bankOf held .size + 1) = ap (λ (l : List ℕ). getD l 1 0) (a .is-told) in
+      omega (arith, size, told, encodes .fits held whole (a .fine) .wide, a .fits .sized)
 
   -- taken back by its opposite, which is accepted, it gives what packs the bank of before
   module _ (held : Held) (whole : Whole held) (before : Held) (own : Fine h held → h .heldOf (h .bankOf held) ≡ before) where

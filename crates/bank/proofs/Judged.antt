@@ -9,7 +9,7 @@ use Rattle.refusal.specs.declared.Refusal.{Refusal}
 use Rattle.refusal.specs.declared.Refusal.the-variants.{Width, Word}
 use Rattle.bank.specs.declared.Verdict.{Verdict}
 use Rattle.bank.specs.declared.Verdict.the-variants.{Fine, No}
-use Rattle.bank.specs.Calls.{Change, Question, changeRules, after, handedOut, questionRules, told}
+use Rattle.bank.specs.Calls.{Change, Question, changeRules, after, toldBeside, questionRules, told}
 use Rattle.bank.specs.Holder.{Holder, heldRules, changedIn, askedIn}
 use Rattle.bank.specs.Judged.{orElse, judgedIn}
 
@@ -63,7 +63,7 @@ module _ {Held : Type 0} (h : Holder Held) (held : Held) {v : Verdict} (e : v �
       changed-refused c =
           ap (refused why) g
           ∙ refused-held (changeRules c (h .bankOf held))
-          (h .values (h .heldOf (after c (h .bankOf held))) ++ handedOut c (h .bankOf held)) (h .values held)
+          (h .values (h .heldOf (after c (h .bankOf held))) ++ toldBeside c (h .bankOf held)) (h .values held)
 
 -- refused by the judgement; that the two tests hold where it passes is told of each holder by itself
 pub ruleset judgement = (asked-refused, changed-refused)

@@ -28,7 +28,7 @@ use Rattle.bank.specs.Calls.{
   backAtOffset,
   changeRules,
   after,
-  handedOut,
+  toldBeside,
 }
 use Rattle.bank.specs.Holder.{Holder, changedIn, askedIn}
 
@@ -146,17 +146,17 @@ module _ {Held : Type 0} (h : Holder Held) (held : Held) (good : h .goodWidth �
   -- ---- accepted: what holds the new bank goes back
 
   -- with what is told behind it
-  so : (c : Change) {next : Held} {told : List ℕ} → allHold (changeRules c b) ≡ true → next ≡ h .heldOf (after c b) → told ≡ handedOut c b
+  so : (c : Change) {next : Held} {told : List ℕ} → allHold (changeRules c b) ≡ true → next ≡ h .heldOf (after c b) → told ≡ toldBeside c b
       → accepted (h .values next ++ told) ≡ changedIn h held c
   unfolding changedIn
   so c e d t =
       rw (good, valid)
       (ap₂ (λ (x : Held) (l : List ℕ). accepted (h .values x ++ l)) d t
-      ∙ sym (accepted-if (changeRules c b) (h .values (h .heldOf (after c b)) ++ handedOut c b) (h .values held) e))
+      ∙ sym (accepted-if (changeRules c b) (h .values (h .heldOf (after c b)) ++ toldBeside c b) (h .values held) e))
 
   module _ {next : Held} {given : List ℕ} where
     -- with nothing behind it
-    alone : (c : Change) → handedOut c b ≡ [] → allHold (changeRules c b) ≡ true → next ≡ h .heldOf (after c b) → given ≡ h .values next
+    alone : (c : Change) → toldBeside c b ≡ [] → allHold (changeRules c b) ≡ true → next ≡ h .heldOf (after c b) → given ≡ h .values next
         → accepted given ≡ changedIn h held c
     alone c t e d v = ap accepted (v ∙ sym (append-nil (h .values next))) ∙ so c e d (sym t)
 
@@ -212,15 +212,16 @@ module _ {Held : Type 0} (h : Holder Held) (held : Held) (good : h .goodWidth �
   unfolding allHold
   value-so d v = alone fromValue refl refl d v
 
-  -- an insertion from the back tells the slot there
-  pub insert-so : {w n slot : ℕ} {next : Held} {given : List ℕ} (i : ℕ) → width b ≡ w → n ≡ b .size → i ≤ n → n < w
-      → next ≡ h .heldOf (insertedFromBack i b) → slot ≡ slotAt (width b - 1) b → given ≡ h .values next ++ slot ∷ []
+  -- an insertion from the back tells the slot there, and how many rest
+  pub insert-so : {w n slot resting : ℕ} {next : Held} {given : List ℕ} (i : ℕ) → width b ≡ w → n ≡ b .size → i ≤ n → n < w
+      → next ≡ h .heldOf (insertedFromBack i b) → slot ≡ slotAt (width b - 1) b → resting ≡ w - (n + 1)
+      → given ≡ h .values next ++ slot ∷ resting ∷ []
       → accepted given ≡ changedIn h held (insertFromBack i)
   unfolding allHold
-  insert-so {w} {n} i wide s l m d t v =
+  insert-so {w} {n} i wide s l m d t r v =
       ap accepted v
       ∙ so (insertFromBack i) (rw (wide, le-leb i (b .size) (omega arith), lt-ltb (b .size) w (omega arith))) d
-      (ap (λ (x : ℕ). x ∷ []) t)
+      (ap₂ (λ (x y : ℕ). x ∷ y ∷ []) t (omega (arith, r, wide, s)))
 
 pub ruleset returns = (
   remove-position,

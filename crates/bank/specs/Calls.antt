@@ -65,7 +65,7 @@ after (removeSlot s) b = removed (placeInUse s b) b
 after (exchange i j) b = exchanged i j b
 after (rotate i j) b = rotated i j b
 
--- what an accepted change tells beside the bank: an insertion from the back the slot that it hands out, the one there
+-- what an accepted change hands out: an insertion from the back the slot that stands there, and nothing else
 abbrev pub handedOut : Change → Bank → List ℕ
 handedOut fromValue b = []
 handedOut (setSize n) b = []
@@ -77,6 +77,20 @@ handedOut (removeToBack i) b = []
 handedOut (removeSlot s) b = []
 handedOut (exchange i j) b = []
 handedOut (rotate i j) b = []
+
+-- what an accepted change tells beside the bank: an insertion from the back the slot that it hands out, and then how many rest, which is
+-- the width less the new size
+abbrev pub toldBeside : Change → Bank → List ℕ
+toldBeside fromValue b = []
+toldBeside (setSize n) b = []
+toldBeside (swapFreeSlots i j) b = []
+toldBeside (insertFromBack i) b = slotAt (width b - 1) b ∷ (width b - insertedFromBack i b .size) ∷ []
+toldBeside (insertFirstFree i) b = []
+toldBeside (remove i) b = []
+toldBeside (removeToBack i) b = []
+toldBeside (removeSlot s) b = []
+toldBeside (exchange i j) b = []
+toldBeside (rotate i j) b = []
 
 -- refusal 4: what each question needs
 abbrev pub questionRules : Question → Bank → List Rule

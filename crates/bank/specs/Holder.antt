@@ -3,11 +3,11 @@
 use Prim.Native.Nat.{ℕ}
 use mathlib.Core.Bool.{Bool, true, false}
 use mathlib.Core.List.{List, [], _∷_, _++_}
-use lib.ListN.{drop}
+use lib.ListN.{take, drop}
 use lib.Dec.{leb, eqb}
 use Rattle.refusal.specs.Answer.{Answer, Rule, _unless_, answered}
 use Rattle.bank.specs.Bank.{Bank, sorted}
-use Rattle.bank.specs.Calls.{Change, Question, changeRules, after, handedOut, questionRules, told}
+use Rattle.bank.specs.Calls.{Change, Question, changeRules, after, toldBeside, questionRules, told}
 use Rattle.bank.specs.History.{Done, releasedBy, oppositesOf}
 
 -- How a bank is held: refusal 1 is given unless the width is good, refusal 2 unless what is held is valid; the bank that is held, and
@@ -26,6 +26,10 @@ abbrev pub ifAccepted : {A : Type 0} → Bool → List A → List A
 ifAccepted true them = them
 ifAccepted false them = []
 
+-- of what is told beside a bank, what is handed out: the first, which is the slot; how many rest is only told
+abbrev pub handedOf : List ℕ → List ℕ
+handedOf told = take 1 told
+
 module _ {Held : Type 0} (h : Holder Held) where
   -- what every call needs, and then what this one needs, by rising number
   abbrev pub heldRules : Held → List Rule → List Rule
@@ -35,7 +39,7 @@ module _ {Held : Type 0} (h : Holder Held) where
   unfoldable pub changedIn : Held → Change → Answer
   changedIn held c =
       answered (heldRules held (changeRules c (h .bankOf held)))
-      (h .values (h .heldOf (after c (h .bankOf held))) ++ handedOut c (h .bankOf held))
+      (h .values (h .heldOf (after c (h .bankOf held))) ++ toldBeside c (h .bankOf held))
       (h .values held)
 
   -- a call that tells a number of the bank; refused, what was given
@@ -53,14 +57,14 @@ module _ {Held : Type 0} (h : Holder Held) where
   unfoldable pub madeEmptyIn : ℕ → List ℕ → Answer
   madeEmptyIn w missing = answered ((1 unless h .goodWidth) ∷ []) (h .values (h .heldOf (sorted w 0))) missing
 
-  -- One call of a history, by its answer: what is held now is told first, accepted or refused; what is told behind it is handed out; an
-  -- accepted removal releases its slot, and an accepted call has its opposite.
+  -- One call of a history, by its answer: what is held now is told first, accepted or refused; of what is told behind it the first, the
+  -- slot, is handed out; an accepted removal releases its slot, and an accepted call has its opposite.
   unfoldable pub heldDoes : Change → Held → Done Held
   heldDoes c held =
       let a = changedIn held c in
       record {
         now = h .read (a .values);
-        handed = drop (h .places) (a .values);
+        handed = handedOf (drop (h .places) (a .values));
         released = ifAccepted (eqb (a .number) 0) (releasedBy c (h .bankOf held));
         opposites = ifAccepted (eqb (a .number) 0) (oppositesOf c (h .bankOf held));
       }

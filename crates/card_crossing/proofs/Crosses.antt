@@ -6,7 +6,6 @@ use mathlib.Core.List.{List, [], _∷_}
 use Rattle.refusal.specs.declared.Refusal.{Refusal}
 use Rattle.refusal.specs.Refusals.{numberOf}
 use Rattle.refusal.specs.Answer.{Answer}
-use Rattle.arena.specs.Memory.{Memory, Did, did}
 use Rattle.card_save.specs.declared.Saved.{Saved}
 use Rattle.card_save.specs.declared.Saved.the-variants as saved-is
 use Rattle.card_save.specs.Answers.{saidSaved}
@@ -15,8 +14,7 @@ use Rattle.card_load.specs.declared.Loaded.the-variants as loaded-is
 use Rattle.card_load.specs.Load.{saidLoaded}
 use Rattle.crossing.specs.Crossing.{Crossed}
 use Rattle.crossing.specs.Told.{CrossedBoth}
-use Rattle.crossing.proofs.Crosses.{refusal-crosses, nothing-told}
-use Rattle.card_crossing.specs.Both.{CrossedLentBoth}
+use Rattle.crossing.proofs.Crosses.{refusal-crosses, refusal-leaves-both}
 use Rattle.card_crossing.specs.Out.{CrossedOut}
 
 -- an answer beside a buffer crosses as what was done
@@ -29,20 +27,6 @@ out-crosses {out = out} {r = r} {before = before} {after = after} e h =
 pub one-out-outcome : {done : List ℕ × Answer} {r r′ : ℕ} {out out′ before after after′ : List ℕ} → CrossedOut done r out before after →
     CrossedOut done r′ out′ before after′ → (r ≡ r′) × (out ≡ out′) × (after ≡ after′)
 one-out-outcome h h′ = (h .number ∙ sym (h′ .number), h .buffer ∙ sym (h′ .buffer), h .lent ∙ sym (h′ .lent))
-
--- an answer that tells on both sides, with memory behind it, crosses as what was done
-pub both-crosses : {a : Answer} {m : Memory} {d : Did} {r : ℕ} {before after before-told after-told : List ℕ} → did a m ≡ d →
-    CrossedBoth a r before after before-told after-told → CrossedLentBoth d r m before after before-told after-told
-both-crosses {m = m} {r = r} {before = before} {after = after} {before-told = old} {after-told = new} e h =
-    subst (λ (x : Did). CrossedLentBoth x r m before after old new) e
-    (record { number = h .number; lent = refl; values = h .values; told = h .told })
-
--- what was done leaves one outcome: what is returned, the lent memory, and what stands in both kinds of lent numbers
-pub one-both-outcome : {d : Did} {r r′ : ℕ} {m m′ : Memory} {before after after′ before-told after-told after-told′ : List ℕ} →
-    CrossedLentBoth d r m before after before-told after-told → CrossedLentBoth d r′ m′ before after′ before-told after-told′ →
-    (r ≡ r′) × (m ≡ m′) × (after ≡ after′) × (after-told ≡ after-told′)
-one-both-outcome h h′ =
-    (h .number ∙ sym (h′ .number), h .lent ∙ sym (h′ .lent), h .values ∙ sym (h′ .values), h .told ∙ sym (h′ .told))
 
 module _ {answer : Saved} where
   pub saved-blocks : {n before : ℕ} → answer ≡ saved-is.Blocks n → Crossed (saidSaved answer) 0 (before ∷ []) (n ∷ [])
@@ -78,6 +62,4 @@ module _ {answer : Loaded} {entries told : ℕ} where
 
   pub loaded-refused : {why : Refusal} {r : ℕ} → answer ≡ loaded-is.Refused why → r ≡ numberOf why →
       CrossedBoth (saidLoaded answer) r (entries ∷ []) (entries ∷ []) (told ∷ []) (told ∷ [])
-  loaded-refused {why} e n =
-      rw e
-      (record { number = n; values = refusal-crosses why [] (entries ∷ []) n .lent; told = nothing-told why (told ∷ []) })
+  loaded-refused {why} e n = rw e (refusal-leaves-both why (entries ∷ []) (told ∷ []) n)

@@ -39,7 +39,7 @@ module _ (d : Memory) (e : List ℕ × ℕ) where
   put-on added h {r} q = by added h
     where
       by : (x : Added) → OneOf (0 ∷ []) (tagOf added-type.the-type x) → r ≡ andPut putLent (did (saidAdded x) d) e
-      by added-is.Done g = q
+      by (added-is.Done resting) g = q
       by (added-is.TooFewNodes n) g = absurd (omega (arith, g))
       by (added-is.Refused why) g = absurd (omega (arith, g))
 

@@ -30,7 +30,7 @@ fn and_put(
         (now (key .entry), frame) ⌝ }
 {
     match added {
-        Added::Done => index_put::inside::put_lent(nodes, cells, bytes, key, frame),
+        Added::Done { resting: _ } => index_put::inside::put_lent(nodes, cells, bytes, key, frame),
         Added::TooFewNodes(lacking) => Added::TooFewNodes(lacking),
         Added::Refused(why) => Added::Refused(why),
     }

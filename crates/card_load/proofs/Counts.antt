@@ -3,11 +3,9 @@ use Prim.Native.Nat.{ℕ, zero, suc, _+_, _*_, _≤_, _<_}
 use mathlib.Core.Path.{_≡_, refl, sym, ap, _∙_}
 use mathlib.Core.List.{List, [], _∷_, _++_, append-assoc}
 use native.Mathlib.Omega.{arith}
-use lib.ListN.{length, getD, take, drop, length-append, take-append-drop}
+use lib.ListN.{length, take, drop, length-append, take-append-drop}
 use lib.Seq.{length-take-le}
-use mir.Syntax.{w8}
-use mir.Val.{Fits}
-use Rattle.order.specs.Bytes.{Bytes, none, more}
+use Rattle.order.specs.Bytes.{Bytes}
 use Rattle.order.specs.Map.{Map}
 use Rattle.order.proofs.Bytes.{bytes-append, bytes-take, bytes-drop}
 use Rattle.lent_words.specs.Parts.{part}
@@ -19,11 +17,6 @@ use Rattle.card_stream.specs.Parse.{right, parse}
 use Rattle.card_stream.proofs.OnlyWritten.{only-written}
 use Rattle.card_stream.proofs.Accepted.{payload-bytes, payload-length}
 use Rattle.card_stream.specs.Payload.{payload}
-
--- what is known of a slice's elements: they are bytes
-pub known : (l : List ℕ) → ((i : ℕ) → Fits w8 (getD l i 0)) → Bytes l
-known [] h = none
-known (x ∷ xs) h = more (h 0 .fits) (known xs (λ i. h (suc i)))
 
 little-take : (n : ℕ) (bytes : List ℕ) → n ≤ length bytes → littleEndian n (take n bytes) ≡ littleEndian n bytes
 little-take n bytes h =

@@ -19,6 +19,7 @@ use Rattle.refusal.proofs.Laws.{number-pos}
 use Rattle.order.specs.Bytes.{Bytes}
 use Rattle.order.specs.Map.{Map, All}
 use Rattle.order.proofs.Map.{all-map}
+use Rattle.ikey.proofs.Orders.{known}
 use Rattle.lent_words.specs.Parts.{zeros}
 use Rattle.arena.specs.declared.Cleared.{Cleared}
 use Rattle.arena.specs.Memory.{Memory, memory, Did, did, rightLengths, nodeCount, cellCount, emptied, cleared, saidCleared}
@@ -50,7 +51,7 @@ use Rattle.card_reader.proofs.Ends.{stand-entries}
 use Rattle.card_load.specs.declared.inside.Exam.{Exam}
 use Rattle.card_load.specs.declared.inside.Exam.the-variants.{Good}
 use Rattle.card_load.proofs.Exams.{Passed, passed, pass-some, pass-all, pass-done}
-use Rattle.card_load.proofs.Counts.{known, image-count}
+use Rattle.card_load.proofs.Counts.{image-count}
 
 -- ---- a clear
 
@@ -66,7 +67,7 @@ empty-same m n p q = ap₂ (λ (a b : ℕ). emptied (nodeCount a) (cellCount b))
 -- ---- filled
 
 pub fill-done : (m : Memory) (bytes : List ℕ) {m' n : Memory} {s : Fields} {field key : List ℕ} (t : Filing) → n ≡ emptyOf m → s ≡ atFirst
-    → both field key t m' ≡ arrived stepPutting (both (zeros 256) (zeros 256) (record { fields = s; added = added-is.Done }) n) bytes
+    → both field key t m' ≡ arrived stepPutting (both (zeros 256) (zeros 256) (record { fields = s; added = added-is.Done 0 }) n) bytes
     → did (saidAdded (t .added)) m' ≡ filled m bytes
 unfolding filled
 fill-done m bytes t p q e = ap (λ (b : Both). b .1) (rw (p, q) at e)
@@ -89,7 +90,7 @@ module _ (m : Memory) (bytes : List ℕ) (added : Added) {n : Memory} (e : did (
     where
       by : (x : Added) → OneOf (0 ∷ []) (tagOf added-type.the-type x) → did (saidAdded x) n ≡ filled m bytes
           → did (accepted (k ∷ [])) n ≡ settled (emptyOf m) (littleEndian 4 image) (filled m bytes)
-      by added-is.Done g d = rw (← d, c)
+      by (added-is.Done resting) g d = rw (← d, c)
       by (added-is.TooFewNodes l) g d = absurd (omega (arith, g))
       by (added-is.Refused why) g d = absurd (omega (arith, g))
 
@@ -100,10 +101,10 @@ holdable-fileable e h = record { bytes = h .bytes; short = h .short }
 
 -- the entries of the stream, put in order
 pub filled-is : (m : Memory) (bytes : List ℕ) {es : Map} → parse bytes ≡ right es
-    → filled m bytes ≡ putsAfter putLent (did (accepted []) (emptyOf m)) es
+    → filled m bytes ≡ putsAfter putLent (did (accepted (0 ∷ [])) (emptyOf m)) es
 unfolding filled
 filled-is m bytes {es} e =
-    let d = did (accepted []) (emptyOf m) in
+    let d = did (accepted (0 ∷ [])) (emptyOf m) in
     let p = arrived stepKeeping ((zeros 256, zeros 256, atFirst), []) bytes in
     let k : p .1 ≡ es = stand-entries (p .0 .2 .stage) (p .0 .0) (p .0 .1) (p .0 .2) (p .1) (machine-is-parser (zeros 256) (zeros 256) bytes refl refl ∙ e) in
     ap (λ (b : Both). b .1) (all-kept d bytes ((zeros 256, zeros 256, atFirst), []))
@@ -121,5 +122,5 @@ load-good m image k e {n} q f =
     f
     ∙ ap₂ (λ (c : ℕ) (g : Did). settled (emptyOf m) c g)
     (image-count image b n (pass-some _ _ _ image e q) (pass-all _ _ _ image e q) r) (filled-is m (payload n image) r)
-    ∙ sym (load-lent m (p .lent) fs)
+    ∙ sym (load-lent m (p .lent) (0 ∷ []) fs)
     ∙ sym (pass-done m image p)

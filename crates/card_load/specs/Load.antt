@@ -46,6 +46,6 @@ examined nodes cells bytes image =
 
 -- ---- behind that
 
--- a clear, and the entries of a stream put as they become whole
+-- a clear, and the entries of a stream put as they become whole; before the first of them, nothing is said to rest
 unfoldable pub filled : Memory → List ℕ → Did
-filled m bytes = arrived stepPutting ((zeros 256, zeros 256, atFirst), did (accepted []) (emptyOf m)) bytes .1
+filled m bytes = arrived stepPutting ((zeros 256, zeros 256, atFirst), did (accepted (0 ∷ [])) (emptyOf m)) bytes .1

@@ -68,7 +68,7 @@ fn fill(nodes: &mut [u64], cells: &mut [u64], bytes: &mut [u8], image: &[u8], n:
     let mut key = [0u8; 256];
     let s = Filing {
         fields: card_fields::inside::at_first(),
-        added: Added::Done,
+        added: Added::Done { resting: 0 },
     };
     let t = card_filing::inside::enter_blocks(
         nodes,
@@ -101,7 +101,7 @@ pub fn refill(
     let count = card_block::inside::word(image, 0) as usize;
     let added = fill(nodes, cells, bytes, image, n);
     match added {
-        Added::Done => Loaded::Entries(count),
+        Added::Done { resting: _ } => Loaded::Entries(count),
         Added::TooFewNodes(lacking) => {
             empty(nodes, cells, bytes);
             Loaded::TooFewNodes(lacking)

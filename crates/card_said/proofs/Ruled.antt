@@ -199,7 +199,7 @@ module _ (m : Memory) (image : List ℕ) (b : Bytes image) where
           let w : Writable es = read-writable b (r .parsed) in
           let s : entriesOf (read image) ≡ es = ap entriesOf (r .parsed) in
           ap (λ (d : Did). d .answer) (load-readable m image f r)
-          ∙ puts-say m es (puts-rise (emptyOf m) [] es (empty-lists m f) (w .rising) (writable-fileable w))
+          ∙ puts-say m es (puts-rise (emptyOf m) [] [] es (empty-lists m f) (w .rising) (writable-fileable w))
           ∙ ap (λ (l : Map). answered (roomRules (putsAfter putDone (did (accepted []) (emptyOf m)) l .answer)) (length l ∷ []) []) (sym s)
           ∙ sym (all-hold m image f r (roomRules (putsSaid m image)) (length (entriesOf (read image)) ∷ []))
 

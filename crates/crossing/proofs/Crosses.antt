@@ -39,12 +39,18 @@ pub one-outcome : {a : Answer} {r r′ : ℕ} {before after after′ : List ℕ}
 one-outcome h h′ = (h .number ∙ sym (h′ .number), h .lent ∙ sym (h′ .lent))
 
 -- a refusal that tells nothing leaves what was lent
-pub nothing-told : (why : Refusal) (before : List ℕ) → before ≡ cond (eqb (numberOf why) 0) before before
+nothing-told : (why : Refusal) (before : List ℕ) → before ≡ cond (eqb (numberOf why) 0) before before
 nothing-told why before = by (eqb (numberOf why) 0)
   where
     by : (b : Bool) → before ≡ cond b before before
     by true = refl
     by false = refl
+
+-- so it does where numbers are lent for what an accepted call tells, and others for what a refusal tells
+pub refusal-leaves-both : (why : Refusal) (before told : List ℕ) {r : ℕ} → r ≡ numberOf why
+    → CrossedBoth (refused why []) r before before told told
+refusal-leaves-both why before told n =
+    record { number = n; values = refusal-crosses why [] before n .lent; told = nothing-told why told }
 
 -- an answer that is known, and tells on both sides, crosses as that one does
 pub both-crosses-as : {a b : Answer} {r : ℕ} {before after before-told after-told : List ℕ} → a ≡ b →
@@ -67,13 +73,14 @@ module _ {answer : Changed} where
   changed-refused {why} {back} {old} e n = rw e (refusal-crosses why (back ∷ []) (old ∷ []) n)
 
 module _ {answer : Inserted} where
-  pub inserted-slot : {new slot old before : ℕ} → answer ≡ I.Slot new slot →
-      Crossed (saidInserted answer) 0 (old ∷ before ∷ []) (new ∷ slot ∷ [])
+  pub inserted-slot : {new slot left old before rested : ℕ} → answer ≡ I.Slot new slot left →
+      Crossed (saidInserted answer) 0 (old ∷ before ∷ rested ∷ []) (new ∷ slot ∷ left ∷ [])
   inserted-slot e = rw e (record { number = refl; lent = refl })
 
-  pub inserted-refused : {why : Refusal} {back old before r : ℕ} → answer ≡ I.Refused why back → r ≡ numberOf why →
-      Crossed (saidInserted answer) r (old ∷ before ∷ []) (old ∷ before ∷ [])
-  inserted-refused {why} {back} {old} {before} e n = rw e (refusal-crosses why (back ∷ []) (old ∷ before ∷ []) n)
+  pub inserted-refused : {why : Refusal} {back old before rested r : ℕ} → answer ≡ I.Refused why back → r ≡ numberOf why →
+      Crossed (saidInserted answer) r (old ∷ before ∷ rested ∷ []) (old ∷ before ∷ rested ∷ [])
+  inserted-refused {why} {back} {old} {before} {rested} e n =
+      rw e (refusal-crosses why (back ∷ []) (old ∷ before ∷ rested ∷ []) n)
 
 module _ {answer : Told} where
   pub told-number : {new old : ℕ} → answer ≡ T.Number new → Crossed (saidTold answer) 0 (old ∷ []) (new ∷ [])

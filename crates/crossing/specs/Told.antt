@@ -17,11 +17,6 @@ unlessNone (x ∷ xs) before = x ∷ xs
 abbrev pub toldAfter : Answer → List ℕ → List ℕ
 toldAfter a before = cond (eqb (a .number) 0) before (unlessNone (a .values) before)
 
--- the call returned the answer's number, and left the numbers that are lent for what a refusal tells, which were these before, as these
-pub record CrossedTold (a : Answer) (returned : ℕ) (before after : List ℕ) : Type 0 where
-  pub number : returned ≡ a .number
-  pub told : after ≡ toldAfter a before
-
 -- the call returned the answer's number, and left the numbers that are lent for what an accepted call tells as these, and those that are
 -- lent for what a refusal tells as those; either are as they were before where nothing is told
 pub record CrossedBoth (a : Answer) (returned : ℕ) (before after before-told after-told : List ℕ) : Type 0 where

@@ -20,18 +20,22 @@ pub fn give_changed(answer: Changed, word: &mut u64) -> u64
     }
 }
 
-// Writes the word after an insertion and the slot handed out, and returns 0; refused, writes nothing and returns the number.
-pub fn give_inserted(answer: Inserted, word: &mut u64, slot: &mut usize) -> u64
+// Writes the word after an insertion, the slot handed out and how many rest, and returns 0; refused, writes nothing and returns the
+// number.
+pub fn give_inserted(answer: Inserted, word: &mut u64, slot: &mut usize, resting: &mut usize) -> u64
     ensures { λ r. ⌜ Crossed (saidInserted answer) r
-        (now (word .entry) ∷ now (slot .entry) ∷ []) (now (word .exit) ∷ now (slot .exit) ∷ []) ⌝ }
+        (now (word .entry) ∷ now (slot .entry) ∷ now (resting .entry) ∷ [])
+        (now (word .exit) ∷ now (slot .exit) ∷ now (resting .exit) ∷ []) ⌝ }
 {
     match answer {
         Inserted::Slot {
             word: new,
             slot: taken,
+            resting: left,
         } => {
             *word = new;
             *slot = taken;
+            *resting = left;
             0
         }
         Inserted::Refused { why, word: _ } => refusal::number(why),

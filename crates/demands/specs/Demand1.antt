@@ -6,7 +6,7 @@
 -- n ≤ W. `AsRuled rules values back answer` says: where no rule applies the answer is accepted with the values; else its number
 -- is the lowest that applies, and what was given comes back, behind the numbers that the refusal tells (`telling`; most tell none).
 -- `KeepsMemory` adds, for calls on lent memory, that a refused call leaves every word and byte as it was.
-use Prim.Native.Nat.{ℕ, _+_, _-_, _*_, _/_, _^_, _≤_, _<_, compare}
+use Prim.Native.Nat.{ℕ, _+_, _-_, _*_, _/_, _%_, _^_, _≤_, _<_, compare}
 use mathlib.Core.Path.{_≡_, refl, subst, sym}
 use mathlib.Core.Logic.{_⊎_, _≢_}
 use mathlib.Core.Bool.{cond, not, _&&_}
@@ -17,7 +17,7 @@ use Rattle.refusal.specs.Answer.{Rule, _unless_, _telling_, accepted}
 use Rattle.refusal.specs.Exactly.{listedAbove, AsRuled, AsListed}
 use Rattle.refusal.proofs.Exactly.{as-ruled, as-listed}
 use Rattle.bank.specs.Bank.{sorted}
-use Rattle.bank.specs.Calls.{Change, Question, changeRules, after, handedOut, questionRules, told}
+use Rattle.bank.specs.Calls.{Change, Question, insertFromBack, changeRules, after, toldBeside, questionRules, told}
 use Rattle.bank.specs.Holder.{changedIn, askedIn, madeSortedIn, madeEmptyIn}
 use Rattle.bank.proofs.Rules.{changes-listed, questions-listed}
 use Rattle.nibbles.specs.Words.{bankOf, wordOf, goodWidth, validWord, clearedWord}
@@ -27,6 +27,7 @@ use Rattle.slots_sorted.specs.Table.{table}
 use Rattle.slots_sorted.proofs.Table.{table-ruled}
 use Rattle.wide_bytes.specs.Wide as wide
 use Rattle.wide_bank.specs.Wides as wides
+use Rattle.wide_bank.proofs.History as wide-words
 use Rattle.ikey.specs.Said.{place}
 use Rattle.order.specs.Bytes.{Bytes}
 use Rattle.order.specs.Layer.{classAt}
@@ -57,11 +58,18 @@ use Rattle.card_said.proofs.Ruled as card
 
 -- Calls that hand a word back (from_value, set_size, swap_free_slots, insert_from_back, insert_first_free, remove, remove_to_back,
 -- remove_slot, exchange, rotate): 1 for the width, 2 for the cleared word, then what the call needs (`changeRules`: 4, 5 and 6).
+-- Request A7 amends document 01 here: beside the word an accepted insert_from_back tells the slot that it hands out and then how many
+-- rest, W minus the new size, and every other call nothing (`toldBeside`). Refused, the word alone comes back: no such number is told.
 pub word-changes : (w word : ℕ) (c : Change)
-    → AsRuled (wordRules w word (changeRules c (bankOf w word))) (wordOf (after c (bankOf w word)) ∷ handedOut c (bankOf w word))
+    → AsRuled (wordRules w word (changeRules c (bankOf w word))) (wordOf (after c (bankOf w word)) ∷ toldBeside c (bankOf w word))
     (word ∷ []) (changed w word c)
 unfolding changedIn listedAbove
 word-changes w word c = as-ruled (changes-listed c (bankOf w word))
+
+-- How many rest (A7), by the word that comes back: its size, which is in its low four bits, and what is told make up the width.
+pub word-rest : (w word i : ℕ) {next slot resting : ℕ} → changed w word (insertFromBack i) ≡ accepted (next ∷ slot ∷ resting ∷ [])
+    → next % 16 + resting ≡ w
+word-rest = words.rest-told
 
 -- Calls that tell a number of a word (size, get, back, back_at_offset): 1, 2, then 4 (`questionRules`).
 pub word-questions : (w word : ℕ) (q : Question)
@@ -99,12 +107,18 @@ table-of-sorted-words = table-ruled
 
 -- Calls that hand a wide bank back (from_bytes, insert_from_back, insert_first_free, remove, remove_to_back, remove_slot, exchange,
 -- rotate): 1 unless the width is 16 to 24, 2 for the bank, a byte past position W-1 that is not 0 among it, then what the call needs, by
--- the same rules as for a word (`changeRules`). Refused, the bank comes back byte for byte.
+-- the same rules as for a word (`changeRules`). Accepted, the same is told beside the bank as beside a word (`toldBeside`, A7); refused,
+-- the bank alone comes back, byte for byte.
 pub wide-changes : (w : ℕ) (bank : List ℕ) (c : Change)
     → AsRuled (wides.wideRules w bank (changeRules c (wide.bankOf w bank)))
-    (wide.bytesOf (after c (wide.bankOf w bank)) ++ handedOut c (wide.bankOf w bank)) bank (wides.changed w bank c)
+    (wide.bytesOf (after c (wide.bankOf w bank)) ++ toldBeside c (wide.bankOf w bank)) bank (wides.changed w bank c)
 unfolding changedIn listedAbove
 wide-changes w bank c = as-ruled (changes-listed c (wide.bankOf w bank))
+
+-- How many rest, by the bank that comes back: its size, which is its first byte, and what is told make up the width.
+pub wide-rest : (w i : ℕ) (bank next : List ℕ) (slot resting : ℕ) → length bank ≡ 25 → length next ≡ 25
+    → wides.changed w bank (insertFromBack i) ≡ accepted (next ++ slot ∷ resting ∷ []) → getD next 0 0 + resting ≡ w
+wide-rest = wide-words.rest-told
 
 -- Calls that tell a number of a wide bank (size, get, back): 1, 2, then 4. Refused, the caller has the bank as it was.
 pub wide-questions : (w : ℕ) (bank : List ℕ) (q : Question)
@@ -240,10 +254,12 @@ putRules m key =
     (7 unless leb (length key) 256) ∷ (10 unless isTree m) ∷ (11 unless not (index.stored m key)) ∷ (13 unless index.hasCell m)
     ∷ ((14 unless index.hasNodes m key) telling (index.lacking m key ∷ [])) ∷ []
 
--- Refused, every word and byte is as it was.
-pub puts : (m : Memory) (key : List ℕ) (frame : ℕ) → KeepsMemory (putRules m key) [] m (index.putDone m key frame)
+-- Accepted, it tells how many slots rest, in the memory that it leaves, in the leaf where the key stands: 15 less the size of that leaf
+-- (document 02, A7; document 01's put tells nothing). A refusal carries no such number; refused, every word and byte is as it was.
+pub puts : (m : Memory) (key : List ℕ) (frame : ℕ)
+    → KeepsMemory (putRules m key) (index.restsIn (index.withEntry m key frame) key) m (index.putDone m key frame)
 unfolding index.putDone listedAbove
-puts m key frame = record { ruled = as-ruled tt; kept = kept-if-refused (index.putSaid m key) _ m }
+puts m key frame = record { ruled = as-ruled tt; kept = kept-if-refused (index.putSaid m key frame) _ m }
 
 -- ---- the card (document 02, A3): what it means that a block, a stream and an image are as written stands in Card.antt
 

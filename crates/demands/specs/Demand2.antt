@@ -23,6 +23,7 @@ use Rattle.arena.specs.Free.{freeCells}
 use Rattle.arena.specs.Memory.{Memory, rightLengths, emptied}
 use Rattle.forest.specs.IsTree.{Layers, IsTree, listing}
 use Rattle.forest.specs.Walk.{isTree}
+use Rattle.model.specs.declared.Met.the-variants.{Conflict}
 use Rattle.model.specs.Calls as model
 use Rattle.model.specs.Calls.{countOf, nodesOf, cellsOf}
 use Rattle.model.specs.GivenBack.{toGiveBack, givenBack}
@@ -31,7 +32,7 @@ use Rattle.index_given_back.specs.GaveBack.{missingIn, GaveBack}
 use Rattle.index_given_back.proofs.Step as steps
 use Rattle.as_map.specs.Calls.{Call, clear, put, remove, kth, count, done, entry, counted, refusal, refused}
 use Rattle.as_map.specs.Calls.{heard, left, answers, leftAfter, leftAfterBefore, OfBytes}
-use Rattle.as_map.specs.Calls.{roomFor, rooms, NoCell, FewNodes, Took}
+use Rattle.as_map.specs.Calls.{roomFor, rooms, NoCell, FewNodes, Took, Resting}
 use Rattle.as_map.specs.Map.{mapSays, mapLeft, mapAnswers, mapAfter}
 use Rattle.as_map.specs.Tally.{putsSince, removalsSince}
 use Rattle.places.proofs.Found as found
@@ -186,6 +187,17 @@ module _ (m : Memory) (v : Layers) (t : IsTree m v) (bytes : Bytes (m .bytes)) (
   -- number stand then; all other cells are as they were.
   pub put-takes : heard m (put key x) ≡ done → Took m v key x (left m (put key x))
   put-takes e = room.put-took m v t bytes key b x e
+
+  -- An accepted put tells how many slots rest (document 02, A7): after it the key stands in a leaf, and the number is 15 less the size of
+  -- that leaf, which after a split is the half in which the entry landed.
+  pub put-tells-rest : heard m (put key x) ≡ done
+      → (n : ℕ) × (model.putDone m key x .answer ≡ accepted (n ∷ [])) × Resting (left m (put key x)) key n
+  put-tells-rest e = room.put-tells m v t bytes key b x e
+
+  -- That is 13 after a conflict, which leaves two in a new leaf: the key's ikey and class were those of an entry with another key.
+  pub thirteen-after-conflict : heard m (put key x) ≡ done → (leaf position cell links : ℕ)
+      → model.place m key ≡ Conflict leaf position cell links → model.putDone m key x .answer ≡ accepted (13 ∷ [])
+  thirteen-after-conflict e leaf position cell links q = room.put-tells-13 m v t bytes key b x e leaf position cell links q
 
   module _ (short : length key ≤ 256) (new : map.lookup bytewise key (listing m v) ≡ none) where
     -- What the put counts on its one way down is that number.

@@ -35,23 +35,23 @@ a gives values = record { ours = a; theirs = accepted values }
 abbrev pub tenTwentyThirty : Internode
 tenTwentyThirty = nodeOf (10 ∷ 20 ∷ 30 ∷ []) (1 ∷ 2 ∷ 3 ∷ 4 ∷ [])
 
--- P1 to P11
+-- P1 to P11. Request A7 amends P2, P3 and P7: an insertion from the back tells, behind the slot, how many rest.
 abbrev pub table : List Example
 table =
     -- P1: the empty word of width 15
     (madeEmpty 15 gives 0x0123456789ABCDE0 ∷ [])
-    -- P2: insert at 0 hands out slot 0
-    ∷ (changed 15 0x0123456789ABCDE0 (insertFromBack 0) gives 0x123456789ABCDE01 ∷ 0 ∷ [])
-    -- P3: again at 0, slot 1
-    ∷ (changed 15 0x123456789ABCDE01 (insertFromBack 0) gives 0x23456789ABCDE012 ∷ 1 ∷ [])
+    -- P2: insert at 0 hands out slot 0; 14 rest
+    ∷ (changed 15 0x0123456789ABCDE0 (insertFromBack 0) gives 0x123456789ABCDE01 ∷ 0 ∷ 14 ∷ [])
+    -- P3: again at 0, slot 1; 13 rest
+    ∷ (changed 15 0x123456789ABCDE01 (insertFromBack 0) gives 0x23456789ABCDE012 ∷ 1 ∷ 13 ∷ [])
     -- P4: from P3, remove(0)
     ∷ (changed 15 0x23456789ABCDE012 (remove 0) gives 0x23456789ABCDE101 ∷ [])
     -- P5: from P3, remove_to_back(0) gives P2's word
     ∷ (changed 15 0x23456789ABCDE012 (removeToBack 0) gives 0x123456789ABCDE01 ∷ [])
     -- P6: make_sorted(15)
     ∷ (madeSorted 15 15 gives 0xEDCBA9876543210F ∷ [])
-    -- P7: width 3, insert at 1
-    ∷ (changed 3 0x1201 (insertFromBack 1) gives 0x2102 ∷ 1 ∷ [])
+    -- P7: width 3, insert at 1; 1 rests
+    ∷ (changed 3 0x1201 (insertFromBack 1) gives 0x2102 ∷ 1 ∷ 1 ∷ [])
     -- P8: rotate(0, 1)
     ∷ (changed 3 0x2102 (rotate 0 1) gives 0x0212 ∷ [])
     -- P9: `61` and `6100` as new keys (ikey, shift count, suffix start), and the first is less

@@ -3,7 +3,7 @@ ghost use mathlib.Core.List.{[], _∷_};
 ghost use Rattle.arena.specs.Memory.{memory};
 ghost use Rattle.card_said.specs.Save.{saveDone};
 ghost use Rattle.card_said.specs.Load.{loadDone};
-ghost use Rattle.card_crossing.specs.Both.{CrossedLentBoth};
+ghost use Rattle.index_crossing.specs.Both.{CrossedLentBoth};
 ghost use Rattle.card_crossing.specs.Out.{CrossedOut};
 use card_crossing::give_loaded;
 use card_crossing::give_saved;

@@ -6,7 +6,7 @@ ghost use Rattle.audit.specs.Audit.{audited};
 ghost use Rattle.model.specs.Calls.{putDone, removed, findSaid, kthSaid, countSaid};
 ghost use Rattle.crossing.specs.Crossing.{Crossed};
 ghost use Rattle.index_crossing.specs.Lent.{CrossedLent};
-ghost use Rattle.index_crossing.specs.Told.{CrossedLentTold};
+ghost use Rattle.index_crossing.specs.Both.{CrossedLentBoth};
 use index_crossing::give_added;
 use index_crossing::give_audited;
 use index_crossing::give_cleared;
@@ -40,7 +40,7 @@ pub extern "C" fn cherchivola_clear(nodes: &mut [u64], cells: &mut [u64], bytes:
     give_cleared(index::clear(nodes, cells, bytes))
 }
 
-// Stores a new key with its frame number; where nodes are too few, tells how many are lacking.
+// Stores a new key with its frame number, and tells how many slots rest in its leaf; where nodes are too few, how many are lacking.
 #[no_mangle]
 pub extern "C" fn cherchivola_put(
     nodes: &mut [u64],
@@ -48,14 +48,19 @@ pub extern "C" fn cherchivola_put(
     bytes: &mut [u8],
     key: &[u8],
     frame: u64,
+    resting: &mut usize,
     lacking: &mut u64,
 ) -> u64
-    ensures { λ r. ⌜ CrossedLentTold
+    ensures { λ r. ⌜ CrossedLentBoth
         (putDone (memory (now (nodes .entry)) (now (cells .entry)) (now (bytes .entry))) (now (key .entry)) frame) r
         (memory (now (nodes .exit)) (now (cells .exit)) (now (bytes .exit)))
-        (now (lacking .entry) ∷ []) (now (lacking .exit) ∷ []) ⌝ }
+        (now (resting .entry) ∷ []) (now (resting .exit) ∷ []) (now (lacking .entry) ∷ []) (now (lacking .exit) ∷ []) ⌝ }
 {
-    give_added(index::put(nodes, cells, bytes, key, frame), lacking)
+    give_added(
+        index::put(nodes, cells, bytes, key, frame),
+        resting,
+        lacking,
+    )
 }
 
 // Takes a key away.

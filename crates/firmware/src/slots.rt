@@ -94,18 +94,21 @@ pub extern "C" fn cherchivola_swap_free_slots(
     give_changed(permuter::swap_free_slots(*word, width, i, j), word)
 }
 
-// The slot at the back is put to use at position i.
+// The slot at the back is put to use at position i, and how many still rest is told.
 #[no_mangle]
 pub extern "C" fn cherchivola_insert_from_back(
     word: &mut u64,
     width: usize,
     i: usize,
     slot: &mut usize,
+    resting: &mut usize,
 ) -> u64
     ensures { λ r. ⌜ Crossed (changed width (now (word .entry)) (insertFromBack i)) r
-        (now (word .entry) ∷ now (slot .entry) ∷ []) (now (word .exit) ∷ now (slot .exit) ∷ []) ⌝ }
+        (now (word .entry) ∷ now (slot .entry) ∷ now (resting .entry) ∷ [])
+        (now (word .exit) ∷ now (slot .exit) ∷ now (resting .exit) ∷ []) ⌝ }
 {
-    give_inserted(permuter::insert_from_back(*word, width, i), word, slot)
+    let answer = permuter::insert_from_back(*word, width, i);
+    give_inserted(answer, word, slot, resting)
 }
 
 // The first free slot, which is the one removed last, is put to use at position i.

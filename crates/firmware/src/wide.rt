@@ -69,19 +69,22 @@ pub extern "C" fn cherchivola_wide_back(bank: &[u8; 25], width: usize, told: &mu
     give_told(wide_bank::back(given, width), told)
 }
 
-// The slot at the back is put to use at position i.
+// The slot at the back is put to use at position i, and how many still rest is told.
 #[no_mangle]
 pub extern "C" fn cherchivola_wide_insert_from_back(
     bank: &mut [u8; 25],
     width: usize,
     i: usize,
     slot: &mut usize,
+    resting: &mut usize,
 ) -> u64
     ensures { λ r. ⌜ Crossed (changed width (now (bank .entry)) (insertFromBack i)) r
-        (now (bank .entry) ++ now (slot .entry) ∷ []) (now (bank .exit) ++ now (slot .exit) ∷ []) ⌝ }
+        (now (bank .entry) ++ now (slot .entry) ∷ now (resting .entry) ∷ [])
+        (now (bank .exit) ++ now (slot .exit) ∷ now (resting .exit) ∷ []) ⌝ }
 {
     let given = *bank;
-    give_inserted(wide_bank::insert_from_back(given, width, i), bank, slot)
+    let answer = wide_bank::insert_from_back(given, width, i);
+    give_inserted(answer, bank, slot, resting)
 }
 
 // The first free slot, which is the one removed last, is put to use at position i.

@@ -1,12 +1,12 @@
 -- A leaf with an entry more is the trees' leaf with that entry altered, in one node or in two. Assumes nothing.
 use mathlib.Core.Path.{_≡_, refl, sym, ap, ap₂, _∙_, subst}
 use mathlib.Core.Logic.{_≢_, ⊎-elim}
-use mathlib.Core.Bool.{Bool, true, cond}
+use mathlib.Core.Bool.{Bool, true, false, cond}
 use mathlib.Core.List.{List, [], _∷_, _++_, map}
 use mathlib.Core.Option.{none}
-use Prim.Native.Nat.{ℕ, suc, _+_, _%_, _≤_, _<_}
+use Prim.Native.Nat.{ℕ, suc, _+_, _-_, _%_, _≤_, _<_}
 use native.Mathlib.Omega.{arith}
-use lib.Dec.{T, eqb, leb, le→leb}
+use lib.Dec.{T, eqb, leb, ltb, le→leb, leb·suc-suc}
 use lib.ListN.{length, getD, set, take, drop, length-append, length-drop, length-map}
 use lib.Seq.{length-take-le, take-all}
 use borrow.Author.Tests.{lt-ltb, le-ltb}
@@ -36,7 +36,7 @@ use Rattle.order.specs.Map.{alter, lookup, Sorted}
 use Rattle.order.proofs.Map.{alter-sorted}
 use Rattle.trees.specs.Nodes.{IkeyClass, layerOrder, leaf, NodeList, nodeIn, oneAt, leafEntries}
 use Rattle.trees.specs.FreeNumbers.{freeNumbers, lowestFree}
-use Rattle.trees.specs.TreePut.{lowOfEntries}
+use Rattle.trees.specs.TreePut.{lowOfEntries, leafKept}
 use Rattle.trees.specs.Cut.{cutPlace}
 use Rattle.trees.specs.PutInMemory.{writeOrSplit}
 use Rattle.trees.specs.Layers.{Pointer}
@@ -45,6 +45,7 @@ use Rattle.trees.proofs.NeededInLayer.{leb-is, leb-not}
 use Rattle.model.specs.declared.Grown.{Grown}
 use Rattle.model.specs.declared.Grown.the-variants.{One, Two}
 use Rattle.model.specs.Leaves.{freshNode, entryPut, leafWith, fifteenAt, leafSplit, entryAdded, leafGrown}
+use Rattle.model.specs.Leaves.{restOf, halfFor, entryRests, leafRests}
 use Rattle.growth.proofs.Frames.{Same, slots-wide, slot-below, size-most, view-leaf}
 use Rattle.growth.proofs.Memory.{Nodes, View, view-at, frees-view, free-of}
 use Rattle.growth.proofs.Columns.{fifteen, entries-view}
@@ -132,7 +133,7 @@ module _ (nodes : List ℕ) (n : ℕ) (N : Nodes nodes n) (k : ℕ) (h : k < n) 
       slot = slotAt 14 (slotsOf word)
 
       -- as `insert_from_back` answers
-      accepts : changed 15 word (insertFromBack p) ≡ accepted (next ∷ slot ∷ [])
+      accepts : changed 15 word (insertFromBack p) ≡ accepted (next ∷ slot ∷ (15 - (word % 16 + 1)) ∷ [])
       unfolding nibbles
       accepts = put-accepted word p (leaf-valid nodes k t) (omega (arith, p-most, leaf-length nodes k t)) room
 
@@ -153,9 +154,14 @@ module _ (nodes : List ℕ) (n : ℕ) (N : Nodes nodes n) (k : ℕ) (h : k < n) 
             kept = λ j z u. W .others j (oneAt-other k j z);
           })
 
+      rests-room : leafRests nodes k e ≡ restOf (length (leafKept Pointer 15 cutPlace (suc (e .ikey)) A))
+      unfolding leafRests entryRests
+      rests-room = rw (lt-ltb (word % 16) 15 room, leb-is (length A) 15 (omega (arith, A-length, leaf-length nodes k t)))
+          (ap restOf (let z : word % 16 + 1 ≡ length A = omega (arith, A-length, leaf-length nodes k t) in z))
+
     -- ---- without room
 
-    module _ (full : 15 ≤ word % 16) {f : ℕ} {fs : List ℕ} (fe : freeNodes nodes n ≡ f ∷ fs) where
+    module _ (full : 15 ≤ word % 16) where
       size-15 : word % 16 ≡ 15
       size-15 = omega (arith, size-most word (leaf-valid nodes k t))
 
@@ -165,47 +171,71 @@ module _ (nodes : List ℕ) (n : ℕ) (N : Nodes nodes n) (k : ℕ) (h : k < n) 
           ap (map (entryAt nodes k))
           (sym (take-all (slotsOf word .size) (slotsOf word .slots) (omega (arith, slots-wide word (leaf-valid nodes k t), size-15))))
 
-      full-is : leafGrown nodes n k e ≡ leafSplit nodes n k longer
-      unfolding leafGrown entryAdded
-      full-is = rw (le-ltb (word % 16) 15 full, all-slots)
-
       sixteen : length longer ≡ 16
       sixteen = longer-length ∙ ap suc (leaf-length nodes k t ∙ size-15)
+
+      over : leb (length A) 15 ≡ false
+      over = leb-not (length A) 15 (omega (arith, A-length, leaf-length nodes k t))
 
       abbrev c : ℕ
       c = cutOf longer
 
-      grown-full : (lo : ℕ) → Grows (oneAt k) nodes n lo k (leafGrown nodes n k e)
-          (writeOrSplit leaf lowOfEntries 15 (cutPlace A) lo k A (View nodes n))
-      unfolding leafSplit
-      grown-full lo =
-          let r : rising longer ≡ true = is-true _ longer-rises in
-          let cl : every ofClass longer ≡ true = is-true _ longer-classes in
-          let cut = cut-is longer r sixteen in
-          let c1 = cut .least in
-          let c15 = cut .most in
-          let lt : length (take c longer) ≡ c = length-take-le c longer (omega (arith, sixteen)) in
-          let ld = length-drop c longer in
-          let fr = free-of nodes n N fe in
-          let f-is : freshNode nodes n ≡ f = ap (λ (l : List ℕ). getD l 0 0) fe in
-          let m1 = putLeaf nodes k (leafWith (take c longer)) in
-          let W1 = leaf-put (take c longer) (omega arith) nodes n N k h (holds (every-take ofClass leaf.none c longer cl))
-          (holds (take-rises longer r c (omega (arith, sixteen)))) in
-          let W2 = leaf-put (drop c longer) (omega (arith, sixteen)) m1 n (W1 .still) f (fr .0)
-          (holds (every-drop ofClass leaf.none c longer cl)) (holds (drop-rises longer r c)) in
-          let cut-is′ : cutPlace A ≡ c = ap cutPlace A-is ∙ cut-same longer sixteen in
-          let fresh-is : lowestFree (View nodes n) ≡ f = ap (λ (l : List ℕ). getD l 0 0) (frees-view nodes n N ∙ fe) in
-          let T1 : take (cutPlace A) A ≡ map viewOf (take c longer) = ap₂ take cut-is′ A-is ∙ sym (map-take viewOf c longer) in
-          let T2 : drop (cutPlace A) A ≡ map viewOf (drop c longer) = ap₂ drop cut-is′ A-is ∙ sym (map-drop viewOf c longer) in
-          let low : lowOfEntries (drop (cutPlace A) A) ≡ suc (ikeyOf longer c) =
-          ap lowOfEntries (ap₂ drop cut-is′ A-is) ∙ low-cut longer c (omega (arith, sixteen)) in
-          rw (full-is, f-is, leb-not (length A) 15 (omega (arith, A-length, leaf-length nodes k t)), low, fresh-is, T1, T2) (record {
-            still = W2 .still;
-            pairs = refl;
-            view = W2 .view ∙ ap (λ (m : NodeList Pointer). set m f (entryNode (drop c longer))) (W1 .view);
-            head = λ i l. W2 .head i l ∙ W1 .head i l;
-            kept = λ j z u i l. W2 .others j (λ q. u (ap (kindAt nodes) q ∙ fr .1)) i l ∙ W1 .others j (oneAt-other k j z) i l;
-          })
+      cut-facts : (1 ≤ c) × (c ≤ 15)
+      cut-facts = let cut = cut-is longer (is-true _ longer-rises) sixteen in (cut .least, cut .most)
+
+      -- the halves as the trees have them, and the right one's lowest ikey
+      cut-is′ : cutPlace A ≡ c
+      cut-is′ = ap cutPlace A-is ∙ cut-same longer sixteen
+
+      left-half : take (cutPlace A) A ≡ map viewOf (take c longer)
+      left-half = ap₂ take cut-is′ A-is ∙ sym (map-take viewOf c longer)
+
+      right-half : drop (cutPlace A) A ≡ map viewOf (drop c longer)
+      right-half = ap₂ drop cut-is′ A-is ∙ sym (map-drop viewOf c longer)
+
+      right-low : lowOfEntries (drop (cutPlace A) A) ≡ suc (ikeyOf longer c)
+      right-low = ap lowOfEntries (ap₂ drop cut-is′ A-is) ∙ low-cut longer c (omega (arith, sixteen, cut-facts))
+
+      rests-full : leafRests nodes k e ≡ restOf (length (leafKept Pointer 15 cutPlace (suc (e .ikey)) A))
+      unfolding leafRests entryRests halfFor
+      rests-full =
+          rw (le-ltb (word % 16) 15 full, all-slots, over, right-low, left-half, right-half, leb·suc-suc (suc (e .ikey)) (ikeyOf longer c))
+          (ap restOf (by (ltb (e .ikey) (ikeyOf longer c))))
+        where
+          by : (left : Bool) → length (cond left (take c longer) (drop c longer))
+              ≡ length (cond left (map viewOf (take c longer)) (map viewOf (drop c longer)))
+          by true = sym (length-map (take c longer) viewOf)
+          by false = sym (length-map (drop c longer) viewOf)
+
+      module _ {f : ℕ} {fs : List ℕ} (fe : freeNodes nodes n ≡ f ∷ fs) where
+        full-is : leafGrown nodes n k e ≡ leafSplit nodes n k longer
+        unfolding leafGrown entryAdded
+        full-is = rw (le-ltb (word % 16) 15 full, all-slots)
+
+        grown-full : (lo : ℕ) → Grows (oneAt k) nodes n lo k (leafGrown nodes n k e)
+            (writeOrSplit leaf lowOfEntries 15 (cutPlace A) lo k A (View nodes n))
+        unfolding leafSplit
+        grown-full lo =
+            let r : rising longer ≡ true = is-true _ longer-rises in
+            let cl : every ofClass longer ≡ true = is-true _ longer-classes in
+            let (c1, c15) = cut-facts in
+            let lt : length (take c longer) ≡ c = length-take-le c longer (omega (arith, sixteen)) in
+            let ld = length-drop c longer in
+            let fr = free-of nodes n N fe in
+            let f-is : freshNode nodes n ≡ f = ap (λ (l : List ℕ). getD l 0 0) fe in
+            let m1 = putLeaf nodes k (leafWith (take c longer)) in
+            let W1 = leaf-put (take c longer) (omega arith) nodes n N k h (holds (every-take ofClass leaf.none c longer cl))
+            (holds (take-rises longer r c (omega (arith, sixteen)))) in
+            let W2 = leaf-put (drop c longer) (omega (arith, sixteen)) m1 n (W1 .still) f (fr .0)
+            (holds (every-drop ofClass leaf.none c longer cl)) (holds (drop-rises longer r c)) in
+            let fresh-is : lowestFree (View nodes n) ≡ f = ap (λ (l : List ℕ). getD l 0 0) (frees-view nodes n N ∙ fe) in
+            rw (full-is, f-is, over, right-low, fresh-is, left-half, right-half) (record {
+              still = W2 .still;
+              pairs = refl;
+              view = W2 .view ∙ ap (λ (m : NodeList Pointer). set m f (entryNode (drop c longer))) (W1 .view);
+              head = λ i l. W2 .head i l ∙ W1 .head i l;
+              kept = λ j z u i l. W2 .others j (λ q. u (ap (kindAt nodes) q ∙ fr .1)) i l ∙ W1 .others j (oneAt-other k j z) i l;
+            })
 
     -- ---- either
 
@@ -239,3 +269,13 @@ module _ (nodes : List ℕ) (n : ℕ) (N : Nodes nodes n) (k : ℕ) (h : k < n) 
       (writeOrSplit leaf lowOfEntries 15 (cutPlace (alter layerOrder (keyOf e small) (putting e small) es)) lo k
       (alter layerOrder (keyOf e small) (putting e small) es) (View nodes n)))
       (sym entries-are) (λ new so enough. leaf-grown-entries new so lo enough)
+
+  -- how many slots rest then, in the leaf or in the half of it where the entry is
+  pub leaf-rests : lookup layerOrder (keyOf e small) entriesOf ≡ none → Sorted layerOrder entriesOf
+      → leafRests nodes k e
+      ≡ restOf (length (leafKept Pointer 15 cutPlace (suc (e .ikey)) (alter layerOrder (keyOf e small) (putting e small) entriesOf)))
+  leaf-rests =
+      subst (λ (es : List (IkeyClass × Pointer)). lookup layerOrder (keyOf e small) es ≡ none → Sorted layerOrder es
+      → leafRests nodes k e
+      ≡ restOf (length (leafKept Pointer 15 cutPlace (suc (e .ikey)) (alter layerOrder (keyOf e small) (putting e small) es))))
+      (sym entries-are) (λ new so. ⊎-elim (rests-room new so) (rests-full new so) (lt-or-ge (word % 16) 15))

@@ -2,7 +2,7 @@
 use mathlib.Core.Path.{_≡_, refl, sym, ap, ap₂, _∙_, subst}
 use mathlib.Core.Logic.{_≢_}
 use mathlib.Core.Bool.{true}
-use mathlib.Core.List.{List, [], _∷_, _++_, map, map-append}
+use mathlib.Core.List.{List, _∷_, _++_, map, map-append}
 use Prim.Native.Nat.{ℕ, _+_, _≤_, _<_}
 use native.Mathlib.Omega.{arith}
 use lib.Dec.{T, eqb}
@@ -142,7 +142,7 @@ rest-zero m k t =
 -- ---- an entry more by an accepted insertion
 
 module _ (nodes : List ℕ) (n : ℕ) (N : Nodes nodes n) (k : ℕ) (h : k < n) (t : T (leafRight nodes k)) (p next slot : ℕ) (s< : slot < 15)
-    (a : changed 15 (wordAt nodes k 1) (insertFromBack p) ≡ accepted (next ∷ slot ∷ [])) (e : Entry) where
+    {told : List ℕ} (a : changed 15 (wordAt nodes k 1) (insertFromBack p) ≡ accepted (next ∷ slot ∷ told)) (e : Entry) where
   abbrev worded : List ℕ
   worded = set nodes (nodeStart k + 1) next
 

@@ -20,6 +20,7 @@ pub mod ConflictLayers
 pub mod LinkPuts
 pub mod Puts
 pub mod Replaced
+pub mod Rests
 pub mod Placed
 pub mod Steps
 pub mod Lent

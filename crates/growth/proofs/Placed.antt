@@ -7,11 +7,11 @@ use native.Mathlib.Omega.{arith}
 use lib.ListN.{length}
 use Rattle.leaf_entries.specs.declared.Entry.{Entry}
 use Rattle.forest.specs.Walk.{heightAt}
-use Rattle.order.specs.Map.{lookup}
+use Rattle.order.specs.Map.{alter, lookup}
 use Rattle.trees.specs.Nodes.{IkeyClass, layerOrder, NodeList}
 use Rattle.trees.specs.FreeNumbers.{freeNumbers, timesIn}
 use Rattle.trees.specs.Tree.{AnyTree, anyRoot, anyEntries, anyReaches, HoldsAny}
-use Rattle.trees.specs.TreePut.{treeFind, layerNeeds}
+use Rattle.trees.specs.TreePut.{treeFind, layerNeeds, anyLeaf, leafKept}
 use Rattle.trees.specs.Cut.{cutPlace}
 use Rattle.trees.specs.PutInMemory.{layerPut}
 use Rattle.trees.specs.FindInMemory.{memoryNeeds}
@@ -22,12 +22,14 @@ use Rattle.trees.proofs.FindInTree.{heightFrom-is, treeFind-is, memoryNeeds-new
 use Rattle.trees.proofs.OneLayer.{lows-agree}
 use Rattle.trees.proofs.Depth.{height-below-length}
 use Rattle.model.specs.Needed.{needIn}
-use Rattle.model.specs.Grow.{entryFor, layerGrown}
+use Rattle.model.specs.Leaves.{restOf}
+use Rattle.model.specs.Grow.{entryFor, layerGrown, layerRests}
 use Rattle.growth.proofs.Memory.{Nodes, View}
 use Rattle.growth.proofs.Entries.{keyOf, putting}
 use Rattle.growth.proofs.LayerGrown.{LayerGrows, layer-grown}
 use Rattle.growth.proofs.LayerKeys.{layer-key}
 use Rattle.growth.proofs.Needs.{need-layer}
+use Rattle.growth.proofs.Rests.{layer-rests}
 
 module _ (nodes : List ℕ) (n : ℕ) (N : Nodes nodes n) (n≤ : n ≤ 255) (hi : ℕ) (K ks : List ℕ) (c : ℕ) (below : layerKey ks K .0 < hi)
     (t : AnyTree Pointer) where
@@ -90,3 +92,14 @@ module _ (nodes : List ℕ) (n : ℕ) (N : Nodes nodes n) (n≤ : n ≤ 255) (hi
         ∙ ap (λ (g : Option Pointer → Option Pointer). layerPut Pointer 15 9 cutPlace (heightIn seen r) (layerKey ks K) g r seen)
         putting-is)
         (layer-grown nodes n N n≤ entry small hi (omega (arith, ikey-is)) t holder H once no (omega (arith, en, need)))
+
+    -- and how many slots rest then where the entry is
+    pub missing-rests : lookup layerOrder (layerKey ks K) (anyEntries Pointer t) ≡ none
+        → layerRests nodes n r entry ≡ restOf (length (leafKept Pointer 15 cutPlace (layerKey ks K .0)
+        (alter layerOrder (layerKey ks K) (λ o. some (cell c)) (anyLeaf Pointer (layerKey ks K .0) t))))
+    missing-rests new =
+        let no : lookup layerOrder (keyOf entry small) (anyEntries Pointer t) ≡ none =
+        ap (λ (k : IkeyClass). lookup layerOrder k (anyEntries Pointer t)) key-is ∙ new in
+        layer-rests nodes n N entry small n≤ hi (omega (arith, ikey-is)) t H (λ j. omega (arith, once j)) no
+        ∙ ap₂ (λ (k : IkeyClass) (g : Option Pointer → Option Pointer). restOf (length (leafKept Pointer 15 cutPlace (k .0)
+        (alter layerOrder k g (anyLeaf Pointer (k .0) t))))) key-is putting-is

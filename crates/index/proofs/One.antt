@@ -22,13 +22,13 @@ use Rattle.index.specs.Answers.{saidAdded, saidRemoved, saidFound, saidL
 -- ---- answers that say the same are the same
 
 pub added-one : (x y : Added) → saidAdded x ≡ saidAdded y → x ≡ y
-added-one added-is.Done added-is.Done e = refl
-added-one added-is.Done (added-is.TooFewNodes k) e = absurd (let z : 0 ≡ 14 = number-of e in omega arith)
-added-one added-is.Done (added-is.Refused r) e = absurd (differ r (number-of e))
-added-one (added-is.TooFewNodes n) added-is.Done e = absurd (let z : 14 ≡ 0 = number-of e in omega arith)
+added-one (added-is.Done a) (added-is.Done b) e = ap added-is.Done (value-of 0 e)
+added-one (added-is.Done a) (added-is.TooFewNodes k) e = absurd (let z : 0 ≡ 14 = number-of e in omega arith)
+added-one (added-is.Done a) (added-is.Refused r) e = absurd (differ r (number-of e))
+added-one (added-is.TooFewNodes n) (added-is.Done b) e = absurd (let z : 14 ≡ 0 = number-of e in omega arith)
 added-one (added-is.TooFewNodes n) (added-is.TooFewNodes k) e = ap added-is.TooFewNodes (value-of 0 e)
 added-one (added-is.TooFewNodes n) (added-is.Refused r) e = absurd (not-14 r (number-of e))
-added-one (added-is.Refused r) added-is.Done e = absurd (differ r (sym (number-of e)))
+added-one (added-is.Refused r) (added-is.Done b) e = absurd (differ r (sym (number-of e)))
 added-one (added-is.Refused r) (added-is.TooFewNodes k) e = absurd (not-14 r (sym (number-of e)))
 added-one (added-is.Refused r) (added-is.Refused q) e = ap added-is.Refused (number-one r q (number-of e))
 

@@ -1,3 +1,4 @@
 pub mod Set
 pub mod Kept
 pub mod Cells
+pub mod Lent

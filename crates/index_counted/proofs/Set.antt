@@ -47,7 +47,7 @@ module _ (m : Memory) (n : ℕ) (sound : Sound m) where
   node-kept k h =
       node-same (m .nodes) (set (m .nodes) 1 n) k (omega (arith, whole)) (omega (arith, whole, as-long)) (words-same k) (sound .nodes-sound k h)
 
-  set-sound : Sound (withCount m n)
+  pub set-sound : Sound (withCount m n)
   set-sound = record {
     lent = rw as-long (sound .lent);
     nodes-sound = λ k h. node-kept k (rw (← as-many) h) .0;
@@ -63,7 +63,7 @@ module _ (m : Memory) (n : ℕ) (sound : Sound m) where
   set-root : layout.rootOf (set (m .nodes) 1 n) ≡ layout.rootOf (m .nodes)
   set-root = getD-set-other (m .nodes) 1 0 n 0 (λ e. omega arith)
 
-  set-tree : (w : Layered 31) → ViewIsTree m w → ViewIsTree (withCount m n) w
+  pub set-tree : (w : Layered 31) → ViewIsTree m w → ViewIsTree (withCount m n) w
   set-tree w t =
       subst (λ (i : ℕ). IsWholeTree 15 rightEdge 31 i (cellsIn m) (nodesView (withCount m n)) (cellsView m)
       (layout.rootOf (set (m .nodes) 1 n)) w) (sym as-many)

@@ -1,4 +1,5 @@
--- What each case of an answer of the index leaves for C: an accepted one its values, a refused one its number alone. Assumes nothing.
+-- What each case of an answer of the index leaves for C: an accepted one its values, a refused one its number and what it
+-- tells. Assumes nothing.
 use Prim.Native.Nat.{ℕ}
 use mathlib.Core.Path.{_≡_, refl, sym, subst, ap, _∙_}
 use mathlib.Core.List.{List, [], _∷_}
@@ -26,10 +27,10 @@ use Rattle.index_count.specs.declared.Counted.{Counted}
 use Rattle.index_count.specs.declared.Counted.the-variants as counted-is
 use Rattle.index_count.specs.Answers.{saidCounted}
 use Rattle.crossing.specs.Crossing.{Crossed}
-use Rattle.crossing.specs.Told.{CrossedTold}
-use Rattle.crossing.proofs.Crosses.{refusal-crosses, nothing-told}
+use Rattle.crossing.specs.Told.{CrossedBoth}
+use Rattle.crossing.proofs.Crosses.{refusal-crosses, refusal-leaves-both}
 use Rattle.index_crossing.specs.Lent.{CrossedLent}
-use Rattle.index_crossing.specs.Told.{CrossedLentTold}
+use Rattle.index_crossing.specs.Both.{CrossedLentBoth}
 
 -- an answer with memory behind it crosses as what was done
 pub done-crosses : {a : Answer} {m : Memory} {d : Did} {r : ℕ} → did a m ≡ d → Crossed a r [] [] → CrossedLent d r m
@@ -48,27 +49,32 @@ module _ {answer : Cleared} where
       Crossed (saidCleared answer) r [] []
   cleared-refused {why} e n = rw e (refusal-crosses why [] [] n)
 
--- an answer that tells, with memory behind it, crosses as what was done
-pub told-crosses : {a : Answer} {m : Memory} {d : Did} {r : ℕ} {before after : List ℕ} → did a m ≡ d → CrossedTold a r before after →
-    CrossedLentTold d r m before after
-told-crosses {a} {m} {r = r} {before = before} {after = after} e h =
-    subst (λ (x : Did). CrossedLentTold x r m before after) e (record { number = h .number; lent = refl; told = h .told })
+-- an answer that tells on both sides, with memory behind it, crosses as what was done
+pub both-crosses : {a : Answer} {m : Memory} {d : Did} {r : ℕ} {before after before-told after-told : List ℕ} → did a m ≡ d →
+    CrossedBoth a r before after before-told after-told → CrossedLentBoth d r m before after before-told after-told
+both-crosses {m = m} {r = r} {before = before} {after = after} {before-told = old} {after-told = new} e h =
+    subst (λ (x : Did). CrossedLentBoth x r m before after old new) e
+    (record { number = h .number; lent = refl; values = h .values; told = h .told })
 
--- what was done leaves one outcome: what is returned, the lent memory, and what stands in the numbers lent for what is told
-pub one-told-outcome : {d : Did} {r r′ : ℕ} {m m′ : Memory} {before after after′ : List ℕ} → CrossedLentTold d r m before after →
-    CrossedLentTold d r′ m′ before after′ → (r ≡ r′) × (m ≡ m′) × (after ≡ after′)
-one-told-outcome h h′ = (h .number ∙ sym (h′ .number), h .lent ∙ sym (h′ .lent), h .told ∙ sym (h′ .told))
+-- what was done leaves one outcome: what is returned, the lent memory, and what stands in both kinds of lent numbers
+pub one-both-outcome : {d : Did} {r r′ : ℕ} {m m′ : Memory} {before after after′ before-told after-told after-told′ : List ℕ} →
+    CrossedLentBoth d r m before after before-told after-told → CrossedLentBoth d r′ m′ before after′ before-told after-told′ →
+    (r ≡ r′) × (m ≡ m′) × (after ≡ after′) × (after-told ≡ after-told′)
+one-both-outcome h h′ =
+    (h .number ∙ sym (h′ .number), h .lent ∙ sym (h′ .lent), h .values ∙ sym (h′ .values), h .told ∙ sym (h′ .told))
 
-module _ {answer : Added} {before : ℕ} where
-  pub added-done : answer ≡ added-is.Done → CrossedTold (saidAdded answer) 0 (before ∷ []) (before ∷ [])
-  added-done e = rw e (record { number = refl; told = refl })
+module _ {answer : Added} {resting lacking : ℕ} where
+  pub added-done : {n : ℕ} → answer ≡ added-is.Done n →
+      CrossedBoth (saidAdded answer) 0 (resting ∷ []) (n ∷ []) (lacking ∷ []) (lacking ∷ [])
+  added-done e = rw e (record { number = refl; values = refl; told = refl })
 
-  pub added-few : {lacking : ℕ} → answer ≡ added-is.TooFewNodes lacking → CrossedTold (saidAdded answer) 14 (before ∷ []) (lacking ∷ [])
-  added-few e = rw e (record { number = refl; told = refl })
+  pub added-few : {n : ℕ} → answer ≡ added-is.TooFewNodes n →
+      CrossedBoth (saidAdded answer) 14 (resting ∷ []) (resting ∷ []) (lacking ∷ []) (n ∷ [])
+  added-few e = rw e (record { number = refl; values = refl; told = refl })
 
   pub added-refused : {why : Refusal} {r : ℕ} → answer ≡ added-is.Refused why → r ≡ numberOf why →
-      CrossedTold (saidAdded answer) r (before ∷ []) (before ∷ [])
-  added-refused {why} e n = rw e (record { number = n; told = nothing-told why (before ∷ []) })
+      CrossedBoth (saidAdded answer) r (resting ∷ []) (resting ∷ []) (lacking ∷ []) (lacking ∷ [])
+  added-refused {why} e n = rw e (refusal-leaves-both why (resting ∷ []) (lacking ∷ []) n)
 
 module _ {answer : Removed} where
   pub removed-done : answer ≡ removed-is.Done → Crossed (saidRemoved answer) 0 [] []

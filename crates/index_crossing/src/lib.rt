@@ -5,7 +5,7 @@ ghost use Rattle.audit.specs.Audit.{saidAudited};
 ghost use Rattle.index.specs.Answers.{saidAdded, saidRemoved, saidFound, saidListed};
 ghost use Rattle.index_count.specs.Answers.{saidCounted};
 ghost use Rattle.crossing.specs.Crossing.{Crossed};
-ghost use Rattle.crossing.specs.Told.{CrossedTold};
+ghost use Rattle.crossing.specs.Told.{CrossedBoth};
 use arena::Cleared;
 use arena::Measured;
 use audit::Audited;
@@ -25,12 +25,17 @@ pub fn give_cleared(answer: Cleared) -> u64
     }
 }
 
-// 0 for a key that was put, or the number of the refusal; with 14 the number of nodes lacking is written.
-pub fn give_added(answer: Added, lacking: &mut u64) -> u64
-    ensures { λ r. ⌜ CrossedTold (saidAdded answer) r (now (lacking .entry) ∷ []) (now (lacking .exit) ∷ []) ⌝ }
+// For a key that was put, writes how many slots rest in its leaf and returns 0. Refused, returns the number: with 14 the number of nodes
+// lacking is written into the other lent number.
+pub fn give_added(answer: Added, resting: &mut usize, lacking: &mut u64) -> u64
+    ensures { λ r. ⌜ CrossedBoth (saidAdded answer) r (now (resting .entry) ∷ []) (now (resting .exit) ∷ [])
+        (now (lacking .entry) ∷ []) (now (lacking .exit) ∷ []) ⌝ }
 {
     match answer {
-        Added::Done => 0,
+        Added::Done { resting: left } => {
+            *resting = left;
+            0
+        }
         Added::TooFewNodes(n) => {
             *lacking = n;
             14

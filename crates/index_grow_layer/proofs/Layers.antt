@@ -11,7 +11,7 @@ use Rattle.model.specs.declared.Grown.{Grown}
 use Rattle.model.specs.declared.Grown.the-variants.{One, Two}
 use Rattle.model.specs.Leaves.{freshNode}
 use Rattle.model.specs.Internodes.{internodePut, overTwo}
-use Rattle.model.specs.Grow.{nodeGrown, rootGrown, layerGrown}
+use Rattle.model.specs.Grow.{nodeGrown, rootGrown, layerGrown, nodeRests, layerRests}
 
 module _ (m : List ℕ) (count holder root : ℕ) (e : Entry) {height : ℕ} {m1 : List ℕ} {g : Grown} (h : height ≡ heightAt m 255 root)
     (f : (m1, g) ≡ nodeGrown m count height root e) where
@@ -26,4 +26,9 @@ module _ (m : List ℕ) (count holder root : ℕ) (e : Entry) {height : ℕ} {m1
       → m2 ≡ internodePut m1 top x → m3 ≡ set m2 holder top → m3 ≡ layerGrown m count holder root e
   layer-two q t o e2 e3 = rw (e3, e2, o, t) (sym (grown ∙ ap (λ (y : Grown). rootGrown count holder root (m1, y)) q))
 
-pub ruleset grows = (needs, layer-one, layer-two)
+pub layer-rests : (m : List ℕ) (count root : ℕ) (e : Entry) {height r : ℕ} → height ≡ heightAt m 255 root
+    → r ≡ nodeRests m count height root e → r ≡ layerRests m count root e
+unfolding layerRests
+layer-rests m count root e h f = f ∙ ap (λ (i : ℕ). nodeRests m count i root e) h
+
+pub ruleset grows = (needs, layer-one, layer-two, layer-rests)

@@ -4,7 +4,7 @@ use mathlib.Core.Path.{_≡_}
 use mathlib.Core.List.{List, _∷_, _++_}
 use native.Mathlib.Omega.{arith}
 use lib.ListN.{length, getD, set, take, drop, length-drop}
-use lib.Seq.{take-all}
+use lib.Seq.{take-all, length-take-le}
 use borrow.Author.Needs.{needs}
 use borrow.Author.Tests.{lt-ltb, le-ltb}
 use Rattle.bank.specs.Bank.{slotAt, insertedFromBack}
@@ -18,9 +18,35 @@ use Rattle.arena.specs.Layout.{wordAt, putLeaf}
 use Rattle.forest.specs.Nodes.{entriesAt}
 use Rattle.model.specs.declared.Grown.{Grown}
 use Rattle.model.specs.declared.Grown.the-variants.{One, Two}
-use Rattle.model.specs.Leaves.{freshNode, entryPut, leafWith, fifteenAt, entryAdded, leafSplit, leafGrown}
+use Rattle.model.specs.Leaves.{
+  freshNode,
+  entryPut,
+  leafWith,
+  fifteenAt,
+  entryAdded,
+  leafSplit,
+  leafGrown,
+  restOf,
+  halfFor,
+  entryRests,
+  leafRests,
+}
 
 -- ---- in two
+
+-- the half in which an entry is: below the ikey between them the left one, else the right one
+module _ (es : List Entry) (ikey : ℕ) {c : ℕ} (ec : c ≡ cutOf es) (l : c ≤ 15) (h : length es ≡ 16) where
+  pub half-left : ikey < getD es c none .ikey → 15 - c ≡ restOf (length (halfFor es ikey))
+  unfolding halfFor
+  half-left b =
+      rw (← ec, lt-ltb ikey (getD es c none .ikey) b)
+      (let z : length (take c es) ≡ c = length-take-le c es (omega arith) in omega (arith, z))
+
+  pub half-right : getD es c none .ikey ≤ ikey → c - 1 ≡ restOf (length (halfFor es ikey))
+  unfolding halfFor
+  half-right b =
+      rw (← ec, le-ltb ikey (getD es c none .ikey) b)
+      (let z = length-drop c es in omega (arith, z))
 
 pub leaf-two : (nodes : List ℕ) (count k : ℕ) (es : List Entry) {c right : ℕ} {a b : Leaf} {m1 m2 : List ℕ} → c ≡ cutOf es
     → right ≡ freshNode nodes count → a ≡ leafWith (take c (drop 0 es)) → m1 ≡ putLeaf nodes k a → length es ≡ 16
@@ -47,4 +73,13 @@ module _ (nodes : List ℕ) (count k : ℕ) (e : Entry) {p word size : ℕ} (ep 
   unfolding leafGrown entryAdded
   leaf-more l ea e2 = rw (← ep, ← ew, le-ltb (word % 16) 15 (omega arith), ← ea) e2
 
-pub ruleset leaves = (needs, leaf-two, leaf-one, leaf-more)
+  pub rests-one : size < 15 → 14 - size ≡ leafRests nodes k e
+  unfolding leafRests entryRests
+  rests-one l = rw (← ew, lt-ltb (word % 16) 15 (omega arith)) (omega (arith, es))
+
+  pub rests-more : {all : List Entry} {r : ℕ} → 15 ≤ size → all ≡ take p (fifteenAt nodes k) ++ e ∷ drop p (fifteenAt nodes k)
+      → r ≡ restOf (length (halfFor all (e .ikey))) → r ≡ leafRests nodes k e
+  unfolding leafRests entryRests
+  rests-more l ea er = rw (← ep, ← ew, le-ltb (word % 16) 15 (omega arith), ← ea) er
+
+pub ruleset leaves = (needs, half-left, half-right, leaf-two, leaf-one, leaf-more, rests-one, rests-more)

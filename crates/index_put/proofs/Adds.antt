@@ -18,7 +18,7 @@ use Rattle.arena.proofs.Measures.{right-means}
 use Rattle.model.specs.declared.Met.{Met}
 use Rattle.model.specs.declared.Met.the-variants.{Stored}
 use Rattle.model.specs.Meet.{meet}
-use Rattle.model.specs.Calls.{neededAt, withCount, putLent}
+use Rattle.model.specs.Calls.{neededAt, withCount, restsPassed, putLent}
 use Rattle.model.proofs.Met as met-type
 use Rattle.seek.specs.Lengths.{NodesLent, CellsLent}
 use Rattle.seek.specs.Within.{Within}
@@ -90,12 +90,13 @@ module _ (nodes cells bytes key : List ℕ) (frame : ℕ) where
             let few : leb need free ≡ false = lt-leb need free (omega arith) in
             rw (le-leb (getD nodes 1 0) 255 s, ← w, tag-other r h, ← d, f, few, ← l)
 
-        pub lent-new : {n1 c1 b1 : List ℕ} → n ≤ 0
+        pub lent-new : {n1 c1 b1 : List ℕ} {rest : ℕ} → n ≤ 0
             → memory n1 c1 b1 ≡ withCount (withAt (memory nodes cells bytes) key frame r) (getD nodes 1 0 + 1)
-            → did (accepted []) (memory n1 c1 b1) ≡ putLent (memory nodes cells bytes) key frame
+            → rest ≡ restsPassed (memory nodes cells bytes) key r
+            → did (accepted (rest ∷ [])) (memory n1 c1 b1) ≡ putLent (memory nodes cells bytes) key frame
         unfolding putLent
-        lent-new z g =
+        lent-new {rest = rest} z g q =
             let enough : leb need free ≡ true = le-leb need free (omega arith) in
-            rw (le-leb (getD nodes 1 0) 255 s, ← w, tag-other r h, ← d, f, enough) (ap (did (accepted [])) g)
+            rw (le-leb (getD nodes 1 0) 255 s, ← w, tag-other r h, ← d, f, enough, ← q) (ap (did (accepted (rest ∷ []))) g)
 
 pub ruleset lents = (needs, not-true, not-false, lent-root, lent-count, lent-seek, lent-place)

@@ -43,6 +43,6 @@ pub fn put_lent(
     if 0 < lacking {
         return Added::TooFewNodes(lacking as u64);
     }
-    store::inside::put_counted(nodes, cells, bytes, key, frame, met);
-    Added::Done
+    let resting = store::inside::put_counted(nodes, cells, bytes, key, frame, met);
+    Added::Done { resting }
 }

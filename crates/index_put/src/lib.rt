@@ -5,7 +5,8 @@ use refusal::Refusal;
 
 // What a put answers.
 pub enum Added {
-    Done,
+    // so many slots rest in the leaf where the key is now
+    Done { resting: usize },
     // 14: so many nodes fewer are free than the put needs
     TooFewNodes(u64),
     Refused(Refusal),

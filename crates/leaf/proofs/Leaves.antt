@@ -58,9 +58,12 @@ module _ (word i : ℕ) where
   abbrev back : ℕ
   back = slotAt (width (slotsOf word) - 1) (slotsOf word)
 
+  abbrev resting : ℕ
+  resting = width (slotsOf word) - insertedFromBack i (slotsOf word) .size
+
   -- a leaf with room accepts it
   pub put-accepted : validWord 15 word ≡ true → i ≤ word % 16 → word % 16 < 15
-      → changed 15 word (insertFromBack i) ≡ accepted (wordOf (insertedFromBack i (slotsOf word)) ∷ back ∷ [])
+      → changed 15 word (insertFromBack i) ≡ accepted (wordOf (insertedFromBack i (slotsOf word)) ∷ back ∷ resting ∷ [])
   unfolding changedIn
   put-accepted v l h = rw (v, le-leb i (word % 16) l, lt-ltb (word % 16) (width (slotsOf word)) (omega (arith, wide word)))
 
@@ -71,18 +74,20 @@ module _ (word i : ℕ) where
     pub next-word : next ≡ wordOf (insertedFromBack i (slotsOf word))
     pub next-slot : slot ≡ back
 
-  put-told : (next slot : ℕ) → changed 15 word (insertFromBack i) ≡ accepted (next ∷ slot ∷ []) → Put next slot
+  put-told : (next slot : ℕ) (told : List ℕ) → changed 15 word (insertFromBack i) ≡ accepted (next ∷ slot ∷ told) → Put next slot
   unfolding changedIn
-  put-told next slot =
+  put-told next slot told =
       by (validWord 15 word) refl (leb i (word % 16)) (leb-true i (word % 16)) (ltb (word % 16) (width (slotsOf word))) (ltb-true (word % 16) (width (slotsOf word)))
     where
       by : (p : Bool) → validWord 15 word ≡ p → (q : Bool) → (q ≡ true → i ≤ word % 16) → (r : Bool) → (r ≡ true → word % 16 < width (slotsOf word))
           → cond p
           (cond q
-          (cond r (accepted (wordOf (insertedFromBack i (slotsOf word)) ∷ back ∷ [])) (record { number = 5; values = word ∷ [] }))
+          (cond r
+          (accepted (wordOf (insertedFromBack i (slotsOf word)) ∷ back ∷ resting ∷ []))
+          (record { number = 5; values = word ∷ [] }))
           (record { number = 4; values = word ∷ [] }))
           (record { number = 2; values = word ∷ [] })
-          ≡ accepted (next ∷ slot ∷ [])
+          ≡ accepted (next ∷ slot ∷ told)
           → Put next slot
       by true v true f true g e =
           record {
@@ -96,20 +101,20 @@ module _ (word i : ℕ) where
       by true v false f r g e = absurd (let z : _≡_ {A = ℕ} 4 0 = ap (λ (a : Answer). a .number) e in omega arith)
       by false v q f r g e = absurd (let z : _≡_ {A = ℕ} 2 0 = ap (λ (a : Answer). a .number) e in omega arith)
 
-  module _ {next slot : ℕ} (e : changed 15 word (insertFromBack i) ≡ accepted (next ∷ slot ∷ [])) where
+  module _ {next slot : ℕ} {told : List ℕ} (e : changed 15 word (insertFromBack i) ≡ accepted (next ∷ slot ∷ told)) where
     put-fit : Fit 15 (insertedFromBack i (slotsOf word))
-    put-fit = let p = put-told next slot e in fit-inserted 15 i (slotsOf word) (fit-slots word (p .word-valid)) (p .place) (omega (arith, p .room, wide word))
+    put-fit = let p = put-told next slot told e in fit-inserted 15 i (slotsOf word) (fit-slots word (p .word-valid)) (p .place) (omega (arith, p .room, wide word))
 
     -- An entry put into the slot that is handed out stands at place i of the view.
     pub put-view : (entries : List Entry) (entry : Entry) → length entries ≡ 15
         → inOrder next (set entries slot entry) ≡ take i (inOrder word entries) ++ entry ∷ drop i (inOrder word entries)
     put-view entries entry h =
-        let p = put-told next slot e in
+        let p = put-told next slot told e in
         ap₂ (λ (b : Bank) (s : ℕ). viewed b (set entries s entry)) (ap slotsOf (p .next-word) ∙ bank-again (insertedFromBack i (slotsOf word)) put-fit) (p .next-slot)
         ∙ rules.inserted-view (slotsOf word) entries (fit-slots word (p .word-valid) .once) (omega (arith, wide word)) i entry (p .place) (p .room)
 
     pub put-valid : validWord 15 next ≡ true
-    put-valid = let p = put-told next slot e in ap (validWord 15) (p .next-word) ∙ valid-packed 15 (insertedFromBack i (slotsOf word)) put-fit
+    put-valid = let p = put-told next slot told e in ap (validWord 15) (p .next-word) ∙ valid-packed 15 (insertedFromBack i (slotsOf word)) put-fit
 
 -- ---- a removal
 

@@ -47,7 +47,7 @@ find-said m key x e = ap (λ (a : Answer). unlessRefused a (numberLine (getD (a 
 
 module _ {m after : Memory} {out written : List ℕ} {r : ℕ} where
   module _ (key : List ℕ) (frame : ℕ) {x : Added} (e : did (saidAdded x) after ≡ putDone m key frame) where
-    pub put-ok : x ≡ added-is.Done → Typed out 0 okLine r written → Answered m (put key frame) out r after written
+    pub put-ok : {n : ℕ} → x ≡ added-is.Done n → Typed out 0 okLine r written → Answered m (put key frame) out r after written
     unfolding left unlessRefused
     put-ok d t = record { leaves = ap (λ (d : Did). d .after) e; prints = rw (← put-said m after key frame x e, d) t }
 

@@ -13,7 +13,7 @@ use index::Found;
 use index::Removed;
 use text::inside::Line;
 
-// Puts a key and prints `ok`, or the refusal: of 14 the number alone, without the nodes lacking.
+// Puts a key and prints `ok`, without the slots that rest, or the refusal: of 14 the number alone, without the nodes lacking.
 fn put(
     nodes: &mut [u64],
     cells: &mut [u64],
@@ -29,7 +29,7 @@ fn put(
 {
     let answer = index::put(nodes, cells, bytes, key, frame);
     match answer {
-        Added::Done => page::inside::ok(out, 0),
+        Added::Done { resting: _ } => page::inside::ok(out, 0),
         Added::TooFewNodes(_) => page::inside::refused(out, 0, 14),
         Added::Refused(why) => lines_list::inside::refused(out, why),
     }

@@ -28,7 +28,8 @@ use Rattle.places.proofs.Found.{listing-rises}
 use Rattle.as_map.specs.Calls.{clear, put, left, heard, answers, leftAfter}
 use Rattle.as_map.proofs.Says.{clear-says}
 use Rattle.as_map.proofs.Leaves.{Lists, cleared-lists, clear-left}
-use Rattle.map_loads.specs.Loads.{putsAfter, Fileable, emptyOf, settled, loaded, putsOf, asCalls, NoRoom, doneEach, FailsFirst, heardAs}
+use Rattle.map_loads.specs.Loads.{andPut, putsAfter, Fileable, emptyOf, settled, loaded, putsOf, asCalls, NoRoom}
+use Rattle.map_loads.specs.Loads.{doneEach, FailsFirst, heardAs}
 use Rattle.map_loads.proofs.Puts.{Good, puts-same}
 use Rattle.map_loads.proofs.Rises.{Outcome, puts-rise, no-room-refused}
 
@@ -49,6 +50,14 @@ pub record Refuses (m : Memory) (es : Map) (d : Did) : Type 0 where
   pub as-put : FailsFirst m asCalls es (heardAs (d .answer))
   pub empties : d .after ≡ left m clear
 
+-- what an accepted answer before the puts told is not told behind them
+told-before : (putting : Memory → List ℕ → ℕ → Did) (told other : List ℕ) (empty m : Memory) (n : ℕ) (es : Map)
+    → settled empty n (putsAfter putting (did (answer.accepted told) m) es)
+    ≡ settled empty n (putsAfter putting (did (answer.accepted other) m) es)
+unfolding andPut
+told-before putting told other empty m n [] = refl
+told-before putting told other empty m n (e ∷ es) = refl
+
 -- lent memory of right lengths, and entries in key order
 module _ (m : Memory) (right : rightLengths (length (m .nodes)) (length (m .cells)) (length (m .bytes)) ≡ true) where
   -- what a clear leaves lists nothing
@@ -68,15 +77,17 @@ module _ (m : Memory) (right : rightLengths (length (m .nodes)) (length (m .cell
   clear-done es e = ap₂ _∷_ (clear-says m (subst T (sym right) tt)) (ap (λ (n : Memory). answers n (putsOf es)) empty-left ∙ e)
 
   -- the puts need no audit
-  pub load-lent : {es : Map} → All Fileable es
-      → loaded m es ≡ settled (emptyOf m) (length es) (putsAfter putLent (did (answer.accepted []) (emptyOf m)) es)
+  pub load-lent : (told : List ℕ) {es : Map} → All Fileable es
+      → loaded m es ≡ settled (emptyOf m) (length es) (putsAfter putLent (did (answer.accepted told) (emptyOf m)) es)
   unfolding loaded
-  load-lent {es} fs = ap (settled (emptyOf m) (length es)) (sym (puts-same (did (answer.accepted []) (emptyOf m)) ([], empty-lists) fs))
+  load-lent told {es} fs =
+      ap (settled (emptyOf m) (length es)) (sym (puts-same (did (answer.accepted []) (emptyOf m)) ([], empty-lists) fs))
+      ∙ told-before putLent [] told (emptyOf m) (emptyOf m) (length es) es
 
   module _ (es : Map) (rises : Rising es) (fs : All Fileable es) where
     pub load-outcome : Loads m es (loaded m es) ⊎ Refuses m es (loaded m es)
     unfolding loaded
-    load-outcome = by (putsAfter putDone (did (answer.accepted []) (emptyOf m)) es) (puts-rise (emptyOf m) [] es empty-lists rises fs)
+    load-outcome = by (putsAfter putDone (did (answer.accepted []) (emptyOf m)) es) (puts-rise (emptyOf m) [] [] es empty-lists rises fs)
       where
         by : (d : Did) → Outcome (emptyOf m) es es d
             → Loads m es (settled (emptyOf m) (length es) d) ⊎ Refuses m es (settled (emptyOf m) (length es) d)

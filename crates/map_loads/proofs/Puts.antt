@@ -10,7 +10,7 @@ use Rattle.order.specs.Map.{Map, All, a[], _a∷_}
 use Rattle.arena.specs.Memory.{Memory, Did}
 use Rattle.forest.specs.Walk.{isTree}
 use Rattle.model.specs.Calls.{putDone, putLent}
-use Rattle.model.proofs.Lent.{lent-is-put}
+use Rattle.index_counted.proofs.Lent.{lent-is-put}
 use Rattle.as_map.specs.Calls.{put}
 use Rattle.as_map.proofs.Says.{accepted}
 use Rattle.as_map.proofs.Leaves.{Lists, leaves}
@@ -22,6 +22,9 @@ Good m = (xs : Map) × Lists m xs
 
 pub good-tree : (m : Memory) → Good m → isTree m ≡ true
 good-tree m (xs, (v, t, b, e)) = accepted m v t b
+
+good-bytes : (m : Memory) → Good m → Bytes (m .bytes)
+good-bytes m (xs, (v, t, b, e)) = b
 
 -- a put leaves it so, accepted or refused
 pub put-good : (m : Memory) → Good m → (key : List ℕ) → Bytes key → (x : ℕ) → Good (putDone m key x .after)
@@ -39,7 +42,7 @@ module _ (d : Did) (g : Good (d .after)) (e : List ℕ × ℕ) (f : Fileable e) 
   -- with the audit or without
   pub and-same : andPut putLent d e ≡ andPut putDone d e
   unfolding andPut
-  and-same = rw (lent-is-put (d .after) (e .0) (e .1) (f .short) (good-tree (d .after) g))
+  and-same = rw (lent-is-put (d .after) (e .0) (e .1) (good-bytes (d .after) g) (f .bytes) (f .short) (good-tree (d .after) g))
 
 -- any number of puts
 pub puts-same : (d : Did) → Good (d .after) → {es : Map} → All Fileable es → putsAfter putLent d es ≡ putsAfter putDone d es

@@ -16,7 +16,7 @@ use Rattle.order.proofs.Bytes.{bytewise-order}
 use Rattle.order.proofs.Map.{alter-left, all-split, sorted-split}
 use Rattle.order.proofs.Lookup.{lookup-left}
 use Rattle.arena.specs.Memory.{Memory, Did, did}
-use Rattle.model.specs.Calls.{countOf, stored, with, withCount, hasCell, hasNodes, hasRoom, lacking, putDone}
+use Rattle.model.specs.Calls.{stored, withEntry, hasCell, hasNodes, hasRoom, lacking, restsIn, putDone}
 use Rattle.index_counted.proofs.Kept.{put-counted}
 use Rattle.places.proofs.Found.{isSome, stored-lookup}
 use Rattle.as_map.proofs.Says.{accepted}
@@ -48,14 +48,18 @@ before (x ∷ xs) e es (p s∷ s) = first ((all-split xs (e ∷ es) p) .1) a∷ 
 
 -- memory with the key, and one more counted
 abbrev pub more : Memory → List ℕ → ℕ → Memory
-more m key x = withCount (with m key x) (countOf m + 1)
+more m key x = withEntry m key x
+
+-- what a put that is accepted tells
+abbrev pub tells-put : Memory → List ℕ → ℕ → List ℕ
+tells-put m key x = restsIn (more m key x) key
 
 -- the next entry is put behind the others, or there is no room for it
 module _ (m : Memory) (xs : Map) (l : Lists m xs) (key : List ℕ) (x : ℕ) (below : Below key xs) (k : Bytes key) (short : length key ≤ 256) where
   -- what the put comes to
   abbrev Next : Type 0
   Next =
-      ((putDone m key x ≡ did (answer.accepted []) (more m key x)) × Lists (more m key x) (xs ++ (key, x) ∷ []))
+      ((putDone m key x ≡ did (answer.accepted (tells-put m key x)) (more m key x)) × Lists (more m key x) (xs ++ (key, x) ∷ []))
       ⊎ ((a : Answer) × NoRoom a × (putDone m key x ≡ did a m))
 
   absent : stored m key ≡ false
@@ -98,9 +102,10 @@ stays putting d (e ∷ es) z =
     let h : andPut putting d e ≡ d = rw z in
     ap (λ (c : Did). foldl (andPut putting) c es) h ∙ stays putting d es z
 
--- all were put: memory lists these entries, and is that after the puts, each of which was heard as done
+-- all were put, the last of them telling this: memory lists these entries, and is that after the puts, each of which was heard as done
 pub record AllPut (m : Memory) (es xs : Map) (d : Did) : Type 0 where
-  pub tells : d .answer ≡ answer.accepted []
+  pub told : List ℕ
+  pub tells : d .answer ≡ answer.accepted told
   pub lists : Lists (d .after) xs
   pub left-so : d .after ≡ leftAfter m (putsOf es)
   pub all-done : answers m (putsOf es) ≡ doneEach (putsOf es)
@@ -110,7 +115,7 @@ abbrev pub Outcome : Memory → Map → Map → Did → Type 0
 Outcome m es xs d = AllPut m es xs d ⊎ (NoRoom (d .answer) × FailsFirst m putsOf es (heardAs (d .answer)))
 
 -- a put that was accepted, before the others
-module _ (m n : Memory) (key : List ℕ) (x : ℕ) (q : putDone m key x ≡ did (answer.accepted []) n) where
+module _ (m n : Memory) (key : List ℕ) (x : ℕ) {told : List ℕ} (q : putDone m key x ≡ did (answer.accepted told) n) where
   one-done : (es : Map) → answers n (putsOf es) ≡ doneEach (putsOf es)
       → answers m (putsOf ((key, x) ∷ es)) ≡ doneEach (putsOf ((key, x) ∷ es))
   one-done es e =
@@ -131,6 +136,7 @@ module _ (m n : Memory) (key : List ℕ) (x : ℕ) (q : putDone m key x ≡ did 
   later-all : (es xs : Map) {d : Did} → AllPut n es xs d → AllPut m ((key, x) ∷ es) xs d
   later-all es xs a =
       record {
+        told = a .told;
         tells = a .tells;
         lists = a .lists;
         left-so = a .left-so ∙ sym (ap (λ (d : Did). leftAfter (d .after) (putsOf es)) q);
@@ -155,24 +161,28 @@ this-fails m key x es {a} r q =
     }
 
 -- any number of them stand behind the others, or there was no room for one
-pub puts-rise : (m : Memory) (xs es : Map) → Lists m xs → Rising (xs ++ es) → All Fileable es
-    → Outcome m es (xs ++ es) (putsAfter putDone (did (answer.accepted []) m) es)
+pub puts-rise : (m : Memory) (told : List ℕ) (xs es : Map) → Lists m xs → Rising (xs ++ es) → All Fileable es
+    → Outcome m es (xs ++ es) (putsAfter putDone (did (answer.accepted told) m) es)
 unfolding andPut
-puts-rise m xs [] l s fs =
-    inl (record { tells = refl; lists = subst (Lists m) (sym (append-nil xs)) l; left-so = refl; all-done = refl })
-puts-rise m xs (e ∷ es) l s (f a∷ fs) =
+puts-rise m told xs [] l s fs =
+    inl (record { told = told; tells = refl; lists = subst (Lists m) (sym (append-nil xs)) l; left-so = refl; all-done = refl })
+puts-rise m told xs (e ∷ es) l s (f a∷ fs) =
     by (put-next m xs l (e .0) (e .1) (before xs e es s) (f .bytes) (f .short))
-    (λ n. puts-rise (more m (e .0) (e .1)) (xs ++ e ∷ []) es n (subst Rising (sym (append-assoc xs (e ∷ []) es)) s) fs)
+    (λ n. puts-rise (more m (e .0) (e .1)) (tells-put m (e .0) (e .1)) (xs ++ e ∷ []) es n
+    (subst Rising (sym (append-assoc xs (e ∷ []) es)) s) fs)
   where
     by : Next m xs l (e .0) (e .1) (before xs e es s) (f .bytes) (f .short)
         → (Lists (more m (e .0) (e .1)) (xs ++ e ∷ [])
-        → Outcome (more m (e .0) (e .1)) es ((xs ++ e ∷ []) ++ es) (putsAfter putDone (did (answer.accepted []) (more m (e .0) (e .1))) es))
+        → Outcome (more m (e .0) (e .1)) es ((xs ++ e ∷ []) ++ es)
+        (putsAfter putDone (did (answer.accepted (tells-put m (e .0) (e .1))) (more m (e .0) (e .1))) es))
         → Outcome m (e ∷ es) (xs ++ e ∷ es) (putsAfter putDone (putDone m (e .0) (e .1)) es)
     by (inl (q, n)) rest =
         subst (λ (d : Did). Outcome m (e ∷ es) (xs ++ e ∷ es) (putsAfter putDone d es)) (sym q)
         (later m (more m (e .0) (e .1)) (e .0) (e .1) q es (xs ++ e ∷ es)
         (subst
-        (λ (ys : Map). Outcome (more m (e .0) (e .1)) es ys (putsAfter putDone (did (answer.accepted []) (more m (e .0) (e .1))) es))
+        (λ (ys : Map).
+        Outcome (more m (e .0) (e .1)) es ys
+        (putsAfter putDone (did (answer.accepted (tells-put m (e .0) (e .1))) (more m (e .0) (e .1))) es))
         (append-assoc xs (e ∷ []) es) (rest n)))
     by (inr (a, r, q)) rest =
         let z : putsAfter putDone (putDone m (e .0) (e .1)) es ≡ did a m =

@@ -18,10 +18,10 @@ use Rattle.model.specs.declared.Met.{Met}
 use Rattle.model.specs.declared.Met.the-variants.{Stored, Conflict, Missing}
 use Rattle.model.specs.Meet.{meet, numberWord}
 use Rattle.model.specs.Listed.{cellsOfLayer}
-use Rattle.model.specs.Leaves.{entryTaken}
+use Rattle.model.specs.Leaves.{entryTaken, restOf}
 use Rattle.model.specs.GivenBack.{allGivenBack}
 use Rattle.model.specs.Needed.{needIn, layersOf}
-use Rattle.model.specs.Grow.{Label, entryFor, layerGrown, layersGrown}
+use Rattle.model.specs.Grow.{Label, entryFor, layerGrown, layerRests, layersGrown}
 
 -- how many nodes are lent
 abbrev pub nodesOf : Memory → ℕ
@@ -168,6 +168,26 @@ with m key frame =
     (putCell (m .cells) (freshCell m) (length key) frame)
     (putKey (m .bytes) (freshCell m) key)
 
+-- and one entry more counted
+abbrev pub withEntry : Memory → List ℕ → ℕ → Memory
+withEntry m key frame = withCount (with m key frame) (countOf m + 1)
+
+-- how many slots rest in the leaf of a stored key
+abbrev pub restsAt : Memory → Met → List ℕ
+restsAt m (Stored leaf position cell) = restOf (slotsAt (m .nodes) leaf .size) ∷ []
+restsAt m (Conflict leaf position cell links) = []
+restsAt m (Missing holder root links) = []
+
+-- how many slots rest in the leaf where the key stands
+abbrev pub restsIn : Memory → List ℕ → List ℕ
+restsIn m key = restsAt m (place m key)
+
+-- the same before the put, as it is passed up from the leaf that the entry goes into: after a conflict, a new leaf has two
+abbrev pub restsPassed : Memory → List ℕ → Met → ℕ
+restsPassed m key (Stored leaf position cell) = 0
+restsPassed m key (Conflict leaf position cell links) = restOf 2
+restsPassed m key (Missing holder root links) = layerRests (m .nodes) (nodesOf m) root (entryFor key (freshCell m) links)
+
 -- refusals 11, 13 and 14, of a put: the key is stored; no cell is free; too few nodes are, with the number of nodes lacking
 abbrev pub putRules : Memory → List ℕ → List Rule
 putRules m key =
@@ -175,20 +195,20 @@ putRules m key =
 
 -- memory after an accepted put: with the entry, and one more counted
 abbrev pub putLeaves : Answer → Memory → List ℕ → ℕ → Memory
-putLeaves a m key frame = whenAccepted a (withCount (with m key frame) (countOf m + 1)) m
+putLeaves a m key frame = whenAccepted a (withEntry m key frame) m
 
--- put: 7 and 10, then 11, 13 and 14
-abbrev pub putSaid : Memory → List ℕ → Answer
-putSaid m key = answered (keyRules m key (putRules m key)) [] []
+-- put: 7 and 10, then 11, 13 and 14; it tells how many slots rest, after it, in the leaf where the key stands
+abbrev pub putSaid : Memory → List ℕ → ℕ → Answer
+putSaid m key frame = answered (keyRules m key (putRules m key)) (restsIn (withEntry m key frame) key) []
 
 -- what put answers, and the memory that it leaves
 unfoldable pub putDone : Memory → List ℕ → ℕ → Did
-putDone m key frame = did (putSaid m key) (putLeaves (putSaid m key) m key frame)
+putDone m key frame = did (putSaid m key frame) (putLeaves (putSaid m key frame) m key frame)
 
 -- a put on lent memory of right lengths, with a key of 256 bytes at most, that judges of memory its count alone: 10 where that is over
--- 255, then 11, 13 and 14
+-- 255, then 11, 13 and 14; it tells the number that is passed up
 abbrev pub lentSaid : Memory → List ℕ → Answer
-lentSaid m key = answered ((10 unless leb (countOf m) mostLent) ∷ putRules m key) [] []
+lentSaid m key = answered ((10 unless leb (countOf m) mostLent) ∷ putRules m key) (restsPassed m key (place m key) ∷ []) []
 
 -- what it answers, and the memory that it leaves: where memory is a tree, those of put
 unfoldable pub putLent : Memory → List ℕ → ℕ → Did

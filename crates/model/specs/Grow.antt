@@ -11,7 +11,7 @@ use Rattle.leaf.specs.Leaf.{less}
 use Rattle.arena.specs.Layout.{nodeStart, putLeaf}
 use Rattle.forest.specs.Walk.{heightAt}
 use Rattle.model.specs.Down.{childFor}
-use Rattle.model.specs.Leaves.{freshNode, leafWith, leafGrown}
+use Rattle.model.specs.Leaves.{freshNode, leafWith, leafGrown, leafRests}
 use Rattle.model.specs.Internodes.{internodePut, internodeGrown, overTwo}
 use Rattle.model.specs.declared.Grown.{Grown}
 use Rattle.model.specs.declared.Grown.the-variants.{One, Two}
@@ -38,6 +38,15 @@ rootGrown count holder root (nodes, Two ikey right) =
 unfoldable pub layerGrown : List ℕ → ℕ → ℕ → ℕ → Entry → List ℕ
 layerGrown nodes count holder root e =
     rootGrown count holder root (nodeGrown nodes count (heightAt nodes 255 root) root e)
+
+-- how many slots rest where an entry more goes, below node n of this height; beyond the last node nothing is told
+unfoldable pub nodeRests : List ℕ → ℕ → ℕ → ℕ → Entry → ℕ
+nodeRests nodes count zero n e = cond (ltb n count) (leafRests nodes n e) 0
+nodeRests nodes count (suc h) n e = cond (ltb n count) (nodeRests nodes count h (childFor nodes n (e .ikey)) e) 0
+
+-- the same in the layer of this root
+unfoldable pub layerRests : List ℕ → ℕ → ℕ → Entry → ℕ
+layerRests nodes count root e = nodeRests nodes count (heightAt nodes 255 root) root e
 
 -- ---- a conflict
 

@@ -1,4 +1,4 @@
--- A leaf of lent memory with an entry less, or with an entry more: in one node, or in two.
+-- A leaf of lent memory with an entry less, or with an entry more: in one node, or in two; and how many slots rest where that entry is.
 use Prim.Native.Nat.{ℕ, _+_, _-_}
 use mathlib.Core.Bool.{cond}
 use mathlib.Core.List.{List, _∷_, _++_, map}
@@ -72,3 +72,23 @@ entryAdded nodes count k p e =
 -- an entry more, where it belongs
 unfoldable pub leafGrown : List ℕ → ℕ → ℕ → Entry → List ℕ × Grown
 leafGrown nodes count k e = entryAdded nodes count k (placeGreater (e .ikey) (rank e) (entriesAt nodes k)) e
+
+-- ---- how many slots rest
+
+-- so many slots rest in a leaf with so many entries: it has 15
+abbrev pub restOf : ℕ → ℕ
+restOf size = 15 - size
+
+-- of sixteen entries in two leaves, the half in which an entry with this ikey is: the left one, where the right one begins above it
+unfoldable pub halfFor : List Entry → ℕ → List Entry
+halfFor es ikey = cond (ltb ikey (ikeyOf es (cutOf es))) (take (cutOf es) es) (drop (cutOf es) es)
+
+-- an entry more at a position: how many slots rest in the leaf with one entry more, or in the half in which the entry is
+unfoldable pub entryRests : List ℕ → ℕ → ℕ → Entry → ℕ
+entryRests nodes k p e =
+    cond (ltb (slotsAt nodes k .size) 15) (restOf (slotsAt nodes k .size + 1))
+    (restOf (length (halfFor (take p (fifteenAt nodes k) ++ e ∷ drop p (fifteenAt nodes k)) (e .ikey))))
+
+-- an entry more, where it belongs
+unfoldable pub leafRests : List ℕ → ℕ → Entry → ℕ
+leafRests nodes k e = entryRests nodes k (placeGreater (e .ikey) (rank e) (entriesAt nodes k)) e

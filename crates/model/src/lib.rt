@@ -33,3 +33,9 @@ pub enum Grown {
     One,
     Two { ikey: u64, node: u64 },
 }
+
+// What became of a node that an entry more went into, and how many slots rest in the leaf where that entry is now.
+pub struct Landed {
+    pub grown: Grown,
+    pub resting: usize,
+}

@@ -12,7 +12,7 @@ use borrow.Author.Tests.{le-leb, eq-eqb}
 use Rattle.refusal.specs.Answer.{accepted}
 use Rattle.bank.specs.Lists.{eachOnce}
 use Rattle.bank.specs.Bank.{Bank, width, valid, insertedFromBack}
-use Rattle.bank.specs.Calls.{Change, after}
+use Rattle.bank.specs.Calls.{Change, insertFromBack, after}
 use Rattle.bank.specs.History.{Call, asChange, Step, withoutBursts, withdrawn, ran, free}
 use Rattle.bank.proofs.Tests.{is-true, and-left, and-right, holds}
 use Rattle.bank.proofs.Counts.{slot-lt}
@@ -149,6 +149,11 @@ module _ (w : ℕ) where
         sized = a .fits .sized;
         once = a .fits .once;
       }))
+
+  -- how many rest after an accepted insertion from the back, and the size of the word that it leaves, make up the width
+  pub rest-told : (word i : ℕ) {next slot resting : ℕ} → changed w word (insertFromBack i) ≡ accepted (next ∷ slot ∷ resting ∷ [])
+      → next % 16 + resting ≡ w
+  rest-told word i {next} {slot} {resting} e = holders.rest-told (words w) w Any encodes word tt i next slot resting tt e
 
   -- ---- demand 3, for any word at any width, once it is cleared
 

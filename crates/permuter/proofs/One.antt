@@ -1,7 +1,10 @@
 -- An answer is known by what it says: each contract leaves one outcome. Assumes nothing.
+use Prim.Native.Nat.{ℕ}
 use mathlib.Core.Path.{_≡_, sym, ap, ap₂}
+use mathlib.Core.List.{List}
+use lib.ListN.{getD}
 use Rattle.refusal.proofs.Laws.{number-one}
-use Rattle.refusal.proofs.One.{number-of, value-of, differ}
+use Rattle.refusal.proofs.One.{number-of, value-of, differ, same-values}
 use Rattle.slot_answers.specs.declared.Changed.{Changed}
 use Rattle.slot_answers.specs.declared.Changed.the-variants as C
 use Rattle.slot_answers.specs.declared.Inserted.{Inserted}
@@ -19,9 +22,10 @@ changed-one (C.Refused r a) (C.Word b) e = absurd (differ r (sym (number-of e)))
 changed-one (C.Refused r a) (C.Refused q b) e = ap₂ C.Refused (number-one r q (number-of e)) (value-of 0 e)
 
 pub inserted-one : (x y : Inserted) → saidInserted x ≡ saidInserted y → x ≡ y
-inserted-one (I.Slot a s) (I.Slot b t) e = ap₂ I.Slot (value-of 0 e) (value-of 1 e)
-inserted-one (I.Slot a s) (I.Refused r b) e = absurd (differ r (number-of e))
-inserted-one (I.Refused r a) (I.Slot b t) e = absurd (differ r (sym (number-of e)))
+inserted-one (I.Slot a s m) (I.Slot b t n) e =
+    ap (λ (told : List ℕ). I.Slot (getD told 0 0) (getD told 1 0) (getD told 2 0)) (same-values e)
+inserted-one (I.Slot a s m) (I.Refused r b) e = absurd (differ r (number-of e))
+inserted-one (I.Refused r a) (I.Slot b t n) e = absurd (differ r (sym (number-of e)))
 inserted-one (I.Refused r a) (I.Refused q b) e = ap₂ I.Refused (number-one r q (number-of e)) (value-of 0 e)
 
 pub told-one : (x y : Told) → saidTold x ≡ saidTold y → x ≡ y

@@ -2,6 +2,7 @@ pub mod Entries
 pub mod Down
 pub mod Looks
 pub mod Meets
+pub mod Rests
 pub mod Seen
 pub mod Found
 pub mod OneLeaf

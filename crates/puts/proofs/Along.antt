@@ -16,7 +16,8 @@ use Rattle.arena.specs.Layout as layout
 use Rattle.arena.specs.Layout.{markAt, keyAt}
 use Rattle.arena.specs.Memory.{Memory}
 use Rattle.forest.specs.IsTree.{Layers, Forest, listing}
-use Rattle.model.specs.Calls.{place, stored, neededAt, nodesWith}
+use Rattle.model.specs.Leaves.{restOf}
+use Rattle.model.specs.Calls.{freshCell, place, stored, neededAt, nodesWith, restsPassed}
 use Rattle.trees.specs.Nodes.{NodeList}
 use Rattle.trees.specs.FreeNumbers.{freeNumbers, timesIn}
 use Rattle.trees.specs.Cut.{cutPlace}
@@ -24,6 +25,7 @@ use Rattle.trees.specs.Entries.{cellKey, FitsLayers}
 use Rattle.trees.specs.Cells.{cellAt}
 use Rattle.trees.specs.Layers.{Pointer, Layered, layerReaches}
 use Rattle.trees.specs.LayersPut.{layersPut, layersNeed}
+use Rattle.trees.specs.LeafOfKey.{sizeAfterPut}
 use Rattle.trees.specs.WholeTree.{bareEntries, layerUses, layerListing}
 use Rattle.trees.proofs.CellsUsed.{layer-listing-same, right-layer-same}
 use Rattle.trees.proofs.WholeTree.{onesBelow-le, fits-first-layer}
@@ -35,7 +37,7 @@ use Rattle.views.proofs.Whole.{ViewIsTree, sound-of, to-trees, listing-view}
 use Rattle.places.proofs.Meets.{Way}
 use Rattle.places.proofs.Seen.{place-way}
 use Rattle.places.proofs.Found.{isSome, stored-lookup}
-use Rattle.puts.proofs.Layers.{Known, way-need}
+use Rattle.puts.proofs.Layers.{Known, way-need, way-passed}
 use Rattle.puts.proofs.Ways.{Put, way-put}
 
 none-of : {A : Type 0} (o : Option A) → isSome o ≡ false → o ≡ none
@@ -100,3 +102,10 @@ module _ (m : Memory) (v : Layers) (t : Forest m v) (bytes : Bytes (m .bytes)) (
         subst (λ (J : List ℕ). Along J (layout.rootOf (m .nodes))) key-is
         (subst (λ (r : ℕ). Along (cellKey at c) r) (seen .rooted)
         (way-need m s at c agree W absent known, way-put m s at c agree W absent known))
+
+    -- and how many slots are passed up as those that rest
+    pub passed : c ≡ freshCell m → restsPassed m K (place m K) ≡ restOf (sizeAfterPut K 15 cutPlace c 31 [] w)
+    passed f =
+        let W = subst (λ (J : List ℕ). Way m J 31 w [] 0 (place m K)) (sym key-is) (place-way m s w seen K b) in
+        subst (λ (J : List ℕ). restsPassed m J (place m K) ≡ restOf (sizeAfterPut J 15 cutPlace c 31 [] w)) key-is
+        (way-passed m s at c f W absent known)

@@ -11,8 +11,9 @@ use Rattle.arena.specs.Layout.{markAt, keyAt}
 use Rattle.arena.specs.Memory.{Memory}
 use Rattle.forest.specs.Walk.{heightAt}
 use Rattle.model.specs.Needed.{needIn, layersOf}
-use Rattle.model.specs.Grow.{entryFor}
-use Rattle.model.specs.Calls.{isStored, neededAt}
+use Rattle.model.specs.Grow.{entryFor, layerRests}
+use Rattle.model.specs.Leaves.{restOf}
+use Rattle.model.specs.Calls.{freshCell, isStored, neededAt, restsPassed}
 use Rattle.model.specs.declared.Met.{Met}
 use Rattle.trees.specs.Nodes.{layerOrder, NodeList}
 use Rattle.trees.specs.FreeNumbers.{freeNumbers, timesIn}
@@ -24,6 +25,7 @@ use Rattle.trees.specs.Entries.{RightLayer, cellKey, valueListing, entryListing
 use Rattle.trees.specs.Layers.{Pointer, LayeredValue, Layered, bareValue, bareEntry, layerRoot, pointerOf, valueReaches, layerReaches}
 use Rattle.trees.specs.Layers.{HoldsValue, HoldsLayer}
 use Rattle.trees.specs.LayersPut.{heightIn, layersNeed}
+use Rattle.trees.specs.LeafOfKey.{sizeHere, sizeAfterPut}
 use Rattle.trees.proofs.Nodes.{layer-order}
 use Rattle.trees.proofs.Paths.{raisedIkey-lt, bytes-rest, down-length}
 use Rattle.trees.proofs.EntriesPut.{short-class, same-key, fits-more, both-longer}
@@ -36,7 +38,7 @@ use Rattle.order.specs.Lists.{total, flattened}
 use Rattle.views.specs.Views.{nodesView, Sound}
 use Rattle.views.proofs.Nodes.{nodesIn}
 use Rattle.views.proofs.LayerViews.{rightEdge}
-use Rattle.growth.proofs.Placed.{needed-is}
+use Rattle.growth.proofs.Placed.{needed-is, missing-rests}
 use Rattle.growth.proofs.Lent.{nodes-of}
 use Rattle.growth.proofs.LayerKeys.{layers-chain}
 use Rattle.places.proofs.Meets.{Way, missing, conflict, below}
@@ -169,3 +171,22 @@ module _ (m : Memory) (sound : Sound m) (at : ℕ → List ℕ × ℕ) (c : ℕ)
         ∙ layers-chain at K (cellKey at b) (C .apart) l (pathDown K ks) (C .fits-on) (C .other-on))
     way-need (below l v ks holder lf p x o q E restBelow) s k =
         rw (found (suc l) v ks k (some (inr x)) q) (way-need restBelow s (known-below l v ks k x q))
+
+  -- ---- how many slots rest where its entry is
+
+  rests-missing : (l : ℕ) (v : Layered l) (ks : List ℕ) → Known l v ks → lookup layerOrder (layerKey ks K) (v .1) ≡ none
+      → layerRests (m .nodes) (nodesIn m) (layerRoot l v) (entryFor K c (length ks)) ≡ restOf (sizeHere K 15 cutPlace c l ks v)
+  rests-missing l v ks k q =
+      missing-rests (m .nodes) (nodesIn m) (nodes-of m sound .0) (nodes-of m sound .1) rightEdge K ks c (key-small ks (k .fits .0)) (v .0)
+      (k .held .0) (λ j. omega (arith, k .once j))
+      (ap (lookup layerOrder (layerKey ks K)) (k .held .1) ∙ lookup-map layerOrder (layerKey ks K) (pointerOf l) (v .1)
+      ∙ ap (mapOption (pointerOf l)) q)
+
+  pub way-passed : {l : ℕ} {v : Layered l} {ks : List ℕ} {holder : ℕ} {o : Met} → c ≡ freshCell m → Way m K l v ks holder o
+      → isStored o ≡ false → Known l v ks → restsPassed m K o ≡ restOf (sizeAfterPut K 15 cutPlace c l ks v)
+  way-passed f (missing zero v ks holder q) s k = rw (← f) (rests-missing zero v ks k q)
+  way-passed f (missing (suc l) v ks holder q) s k = rw (← f, q) (rests-missing (suc l) v ks k q)
+  way-passed f (way.stored l v ks holder lf p b q E w e) s k = let z : _≡_ {A = ℕ} 0 1 = cc in absurd (omega arith)
+  way-passed f (conflict zero v ks holder lf p b q E w n) s k = absurd (none-last v ks k b q)
+  way-passed f (conflict (suc l) v ks holder lf p b q E w n) s k = rw q
+  way-passed f (below l v ks holder lf p x o q E rest) s k = rw q (way-passed f rest s (known-below l v ks k x q))

@@ -19,7 +19,8 @@ use Rattle.arena.specs.Memory.{Memory, memory, nodeCount, cellCount}
 use Rattle.arena.proofs.Frees.{first-passing}
 use Rattle.arena.proofs.Measures.{and-true}
 use Rattle.forest.specs.IsTree.{Layers, Forest, listing}
-use Rattle.model.specs.Calls.{nodesOf, cellsOf, place, stored, neededAt, needed, hasRoom, freshCell, nodesWith, with}
+use Rattle.model.specs.Leaves.{restOf}
+use Rattle.model.specs.Calls.{nodesOf, cellsOf, place, stored, neededAt, needed, hasRoom, freshCell, nodesWith, with, restsPassed}
 use Rattle.trees.specs.Nodes.{NodeList}
 use Rattle.trees.specs.FreeNumbers.{freeNumbers, timesIn}
 use Rattle.trees.specs.Cut.{cutPlace}
@@ -27,6 +28,7 @@ use Rattle.trees.specs.Entries.{cellKey, FitsLayers}
 use Rattle.trees.specs.Cells.{CellList, cellAt, freeCellNumbers}
 use Rattle.trees.specs.Layers.{Pointer, Layered, layerRoot, layerReaches}
 use Rattle.trees.specs.LayersPut.{layersPut, layersNeed}
+use Rattle.trees.specs.LeafOfKey.{leafOfKey, sizeAfterPut}
 use Rattle.trees.specs.WholeTree.{bareEntries, layerUses, layerListing, IsWholeTree}
 use Rattle.trees.proofs.Nodes.{oneAt-other}
 use Rattle.trees.proofs.Cut.{cut-exists}
@@ -211,6 +213,7 @@ module _ (m : Memory) (v : Layers) (t : Forest m v) (bytes : Bytes (m .bytes)) (
       (x : Layered 31) × IsWholeTree 15 rightEdge 31 (nodesIn m) (cellsIn m) (grown .1) cells′ (grown .0) x
       × (layerListing 31 cells′ x ≡ alter bytewise K (λ o. some frame) (layerListing 31 (cellsView m) w))
       × (freeNumbers 0 (grown .1) ≡ drop (layersNeed 15 (cellAt (cellsView m)) K 31 [] r M) (freeNumbers 0 M))
+      × (length (leafOfKey K 31 [] x) ≡ sizeAfterPut K 15 cutPlace c 31 [] w)
 
   putted : Putted
   putted =
@@ -225,7 +228,7 @@ module _ (m : Memory) (v : Layers) (t : Forest m v) (bytes : Bytes (m .bytes)) (
 
   pub put-tree : More (with m K frame)
   put-tree =
-      let (x, X, listed, left) = putted in
+      let (x, X, listed, left, size) = putted in
       let (u, U, e) = from-trees (with m K frame) (after-sound m s c inside K short frame result grown rooted) x
       (after-tree m s c inside K short frame result grown rooted x X) in (
         u,
@@ -244,10 +247,24 @@ module _ (m : Memory) (v : Layers) (t : Forest m v) (bytes : Bytes (m .bytes)) (
   pub put-takes : (freeNodes ((with m K frame) .nodes) (nodesOf m) ≡ drop (needed m K) (freeNodes (m .nodes) (nodesOf m)))
       × (freeCells ((with m K frame) .cells) (cellsOf m) ≡ drop 1 (freeCells (m .cells) (cellsOf m)))
   put-takes =
-      let (x, X, listed, left) = putted in (
+      let (x, X, listed, left, size) = putted in (
         sym (frees-view result (nodesIn m) (rooted .still)) ∙ ap (freeNumbers 0) (rooted .view) ∙ left
             ∙ ap₂ (λ (n : ℕ) (fs : List ℕ). drop n fs) needs (frees-view (m .nodes) (nodesIn m) (nodes-of m s .0)),
         ap (freeCells ((with m K frame) .cells)) (sym (as-many-cells m s c inside K short frame result grown rooted))
             ∙ sym (free-cells-view (with m K frame))
             ∙ ap (freeCellNumbers 0) (after-cells m s c inside K short frame result grown rooted) ∙ taken .1,
+      )
+
+  -- as the trees see memory then: the leaf of the key has as many entries as leave the slots resting that are passed up
+  abbrev pub SeenWith : Memory → Type 0
+  SeenWith after =
+      Sound after × (x : Layered 31) × ViewIsTree after x × (restsPassed m K (place m K) ≡ restOf (length (leafOfKey K 31 [] x)))
+
+  pub put-seen : SeenWith (with m K frame)
+  put-seen =
+      let (x, X, listed, left, size) = putted in (
+        after-sound m s c inside K short frame result grown rooted,
+        x,
+        after-tree m s c inside K short frame result grown rooted x X,
+        A.passed m v t bytes K b short absent at c key-is used-same agree refl ∙ ap restOf (sym size),
       )

@@ -240,7 +240,7 @@ module _ (m : Memory) (sound : Sound m) (at : ℕ → List ℕ × ℕ) (c : ℕ)
     way-put (below l v ks holder lf p w o q E rest) s k =
         rw (found m sound at c (suc l) v ks k (some (inr w)) q) (λ en.
         let u = known-below m sound at c l v ks k w q in
-        let (x, D, e) = layersPut-became 15 9 cutPlace rightEdge at c (cut-exists 9) (omega arith) (omega arith) (omega arith)
+        let (x, D, e, size) = layersPut-became 15 9 cutPlace rightEdge at c (cut-exists 9) (omega arith) (omega arith) (omega arith)
         (λ J y. raisedIkey-lt y) l (pathDown K ks) M w (u .fits) (u .held) (u .good) (u .new) (u .once) en in
         below-put l v ks k holder lf p w q E (nodesWith m K c o) (layersPut 15 9 cutPlace at K c l (pathDown K ks) (layerRoot l w) M)
         (λ j y. D .same j (omega (arith, k .once j, entry-counted m sound at c (suc l) v ks k (inr w) q j)) (omega (arith, k .once j)))

@@ -100,10 +100,10 @@ fn cleared(answer: Cleared, text: &[u8]) -> bool {
     }
 }
 
-// Whether a put does; of 14 also how many nodes are lacking.
+// Whether a put does; accepted also how many slots rest, of 14 how many nodes are lacking.
 fn put(answer: Added, text: &[u8]) -> bool {
     match answer {
-        Added::Done => same(0, 0, text),
+        Added::Done { resting } => same(0, resting as u64, text),
         Added::TooFewNodes(lacking) => same(14, lacking, text),
         Added::Refused(why) => same(refusal::number(why), 0, text),
     }

@@ -27,7 +27,8 @@ fn frame(text: &[u8]) -> u64 {
     hex::sixteen(text, 3)
 }
 
-// The other number of the line: the k of a k-th entry, the nodes that a put lacks, or the number of entries.
+// The other number of the line: the k of a k-th entry, the slots that rest after a put or the nodes that it lacks, or the number of
+// entries.
 fn other(text: &[u8]) -> u64 {
     hex::sixteen(text, 19)
 }
@@ -109,10 +110,10 @@ fn cleared_number(answer: Cleared) -> u64 {
     }
 }
 
-// Whether a put says what the line has; of 14 also how many nodes are lacking.
+// Whether a put says what the line has; accepted also how many slots rest, of 14 how many nodes are lacking.
 fn put(answer: Added, text: &[u8]) -> bool {
     match answer {
-        Added::Done => number(text) == 0,
+        Added::Done { resting } => number(text) == 0 && resting as u64 == other(text),
         Added::TooFewNodes(lacking) => number(text) == 14 && lacking == other(text),
         Added::Refused(why) => refusal::number(why) == number(text),
     }

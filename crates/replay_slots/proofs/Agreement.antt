@@ -20,8 +20,16 @@ module _ (text : List ℕ) {said : Said} {number : ℕ} where
   unfolding agreed
   first-differs {first} e n f q h = rw (← e, ← n, ← f, eq-eqb (said .number) number q, ne-eqb (said .first) first h) refl
 
-  pub second-decides : {first second : ℕ} → said ≡ replayedOf text → number ≡ hexAt text 4 1 →
+  pub second-differs : {first second : ℕ} → said ≡ replayedOf text → number ≡ hexAt text 4 1 →
       first ≡ hexAt text 74 16 → second ≡ hexAt text 91 4 → said .number ≡ number → said .first ≡ first →
-      eqb (said .second) second ≡ agreed text
+      (said .second ≡ second → ⊥) → false ≡ agreed text
   unfolding agreed
-  second-decides {first} {second} e n f s q h = rw (← e, ← n, ← f, ← s, eq-eqb (said .number) number q, eq-eqb (said .first) first h) refl
+  second-differs {first} {second} e n f s q h d =
+      rw (← e, ← n, ← f, ← s, eq-eqb (said .number) number q, eq-eqb (said .first) first h, ne-eqb (said .second) second d) refl
+
+  pub third-decides : {first second third : ℕ} → said ≡ replayedOf text → number ≡ hexAt text 4 1 →
+      first ≡ hexAt text 74 16 → second ≡ hexAt text 91 4 → third ≡ hexAt text 96 4 → said .number ≡ number →
+      said .first ≡ first → said .second ≡ second → eqb (said .third) third ≡ agreed text
+  unfolding agreed
+  third-decides {first} {second} {third} e n f s t q h d =
+      rw (← e, ← n, ← f, ← s, ← t, eq-eqb (said .number) number q, eq-eqb (said .first) first h, eq-eqb (said .second) second d) refl

@@ -1,4 +1,4 @@
--- Each case of an answer as three numbers, and the answer of each code. Assumes nothing.
+-- Each case of an answer as four numbers, and the answer of each code. Assumes nothing.
 use Prim.Native.Nat.{ℕ, zero, suc, _≤_}
 use native.Mathlib.Omega.{arith}
 use mathlib.Core.Path.{_≡_, refl, sym, ap, _∙_}
@@ -19,46 +19,47 @@ use Rattle.permuter.specs.Answers.{saidChanged, saidInserted, saidTold, saidMad
 use Rattle.replay_slots.specs.declared.asked.Said.{Said}
 use Rattle.replay_slots.specs.Recorded.{saidOf, answers, noCall, called}
 
-abbrev three : ℕ → ℕ → ℕ → Said
-three number first second = record { number = number; first = first; second = second }
+abbrev four : ℕ → ℕ → ℕ → ℕ → Said
+four number first second third = record { number = number; first = first; second = second; third = third }
 
 module _ {answer : Changed} where
-  pub changed-word : {word : ℕ} → answer ≡ C.Word word → three 0 word 0 ≡ saidOf (saidChanged answer)
+  pub changed-word : {word : ℕ} → answer ≡ C.Word word → four 0 word 0 0 ≡ saidOf (saidChanged answer)
   unfolding saidOf
   changed-word e = rw e refl
 
   pub changed-refused : {why : Refusal} {word n : ℕ} → answer ≡ C.Refused why word → n ≡ numberOf why →
-      three n word 0 ≡ saidOf (saidChanged answer)
+      four n word 0 0 ≡ saidOf (saidChanged answer)
   unfolding saidOf
   changed-refused e n = rw (e, n) refl
 
 module _ {answer : Inserted} where
-  pub inserted-slot : {word slot : ℕ} → answer ≡ I.Slot word slot → three 0 word slot ≡ saidOf (saidInserted answer)
+  pub inserted-slot : {word slot resting : ℕ} → answer ≡ I.Slot word slot resting →
+      four 0 word slot resting ≡ saidOf (saidInserted answer)
   unfolding saidOf
   inserted-slot e = rw e refl
 
   pub inserted-refused : {why : Refusal} {word n : ℕ} → answer ≡ I.Refused why word → n ≡ numberOf why →
-      three n word 0 ≡ saidOf (saidInserted answer)
+      four n word 0 0 ≡ saidOf (saidInserted answer)
   unfolding saidOf
   inserted-refused e n = rw (e, n) refl
 
 module _ {answer : Told} where
-  pub told-number : {number : ℕ} → answer ≡ T.Number number → three 0 number 0 ≡ saidOf (saidTold answer)
+  pub told-number : {number : ℕ} → answer ≡ T.Number number → four 0 number 0 0 ≡ saidOf (saidTold answer)
   unfolding saidOf
   told-number e = rw e refl
 
   pub told-refused : {why : Refusal} {word n : ℕ} → answer ≡ T.Refused why word → n ≡ numberOf why →
-      three n word 0 ≡ saidOf (saidTold answer)
+      four n word 0 0 ≡ saidOf (saidTold answer)
   unfolding saidOf
   told-refused e n = rw (e, n) refl
 
 module _ {answer : Made} where
-  pub made-word : {word : ℕ} → answer ≡ M.Word word → three 0 word 0 ≡ saidOf (saidMade answer)
+  pub made-word : {word : ℕ} → answer ≡ M.Word word → four 0 word 0 0 ≡ saidOf (saidMade answer)
   unfolding saidOf
   made-word e = rw e refl
 
   pub made-refused : {why : Refusal} {n : ℕ} → answer ≡ M.Refused why → n ≡ numberOf why →
-      three n 0 0 ≡ saidOf (saidMade answer)
+      four n 0 0 0 ≡ saidOf (saidMade answer)
   unfolding saidOf
   made-refused e n = rw (e, n) refl
 
@@ -80,6 +81,6 @@ others-beyond (suc n) call h =
     omega arith
 
 -- a code past the last call asks nothing
-pub asks-nothing : (call w word a b : ℕ) → 16 ≤ call → three 16 0 0 ≡ saidOf (called call w word a b)
+pub asks-nothing : (call w word a b : ℕ) → 16 ≤ call → four 16 0 0 0 ≡ saidOf (called call w word a b)
 unfolding called saidOf
 asks-nothing call w word a b h = rw (List·getD-eq-default (answers w word a b) noCall {n = call} h) refl

@@ -17,4 +17,5 @@ unfoldable pub agreed : List ℕ → Bool
 agreed text =
     eqb (replayedOf text .number) (hexAt text 4 1) &&
     eqb (replayedOf text .first) (hexAt text 74 16) &&
-    eqb (replayedOf text .second) (hexAt text 91 4)
+    eqb (replayedOf text .second) (hexAt text 91 4) &&
+    eqb (replayedOf text .third) (hexAt text 96 4)

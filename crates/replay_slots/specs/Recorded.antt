@@ -22,9 +22,10 @@ use Rattle.bank.specs.Calls.{
 use Rattle.permuter.specs.Words.{changed, asked, madeSorted, madeEmpty}
 use Rattle.replay_slots.specs.declared.asked.Said.{Said}
 
--- an answer as three numbers: the number, the first value and the second, or 0 where there is none
+-- an answer as four numbers: the number, the first value, the second and the third, or 0 where there is none
 unfoldable pub saidOf : Answer → Said
-saidOf a = record { number = a .number; first = getD (a .values) 0 0; second = getD (a .values) 1 0 }
+saidOf a =
+    record { number = a .number; first = getD (a .values) 0 0; second = getD (a .values) 1 0; third = getD (a .values) 2 0 }
 
 -- a code that no call has
 abbrev pub noCall : Answer

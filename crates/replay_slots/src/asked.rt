@@ -1,4 +1,4 @@
-// A recorded call put to the library `permuter`, and its answer as three numbers.
+// A recorded call put to the library `permuter`, and its answer as four numbers.
 ghost use mathlib.Core.Path.{_≡_};
 ghost use Prim.Native.Nat.{_<_};
 ghost use Rattle.permuter.specs.Answers.{saidChanged, saidInserted, saidTold, saidMade};
@@ -8,11 +8,12 @@ use permuter::Inserted;
 use permuter::Made;
 use permuter::Told;
 
-// The number, the first value and the second; 0 where there is none.
+// The number, the first value, the second and the third; 0 where there is none.
 pub struct Said {
     pub number: u64,
     pub first: u64,
     pub second: u64,
+    pub third: u64,
 }
 
 // A changed word, or a refusal and the word as it was.
@@ -24,29 +25,37 @@ fn of_changed(answer: Changed) -> Said
             number: 0,
             first: word,
             second: 0,
+            third: 0,
         },
         Changed::Refused { why, word } => Said {
             number: refusal::number(why),
             first: word,
             second: 0,
+            third: 0,
         },
     }
 }
 
-// The word after an insertion and the slot handed out, or a refusal and the word as it was.
+// The word after an insertion, the slot handed out and how many rest, or a refusal and the word as it was.
 fn of_inserted(answer: Inserted) -> Said
     ensures { λ r. ⌜ r ≡ saidOf (saidInserted answer) ⌝ }
 {
     match answer {
-        Inserted::Slot { word, slot } => Said {
+        Inserted::Slot {
+            word,
+            slot,
+            resting,
+        } => Said {
             number: 0,
             first: word,
             second: slot as u64,
+            third: resting as u64,
         },
         Inserted::Refused { why, word } => Said {
             number: refusal::number(why),
             first: word,
             second: 0,
+            third: 0,
         },
     }
 }
@@ -60,11 +69,13 @@ fn of_told(answer: Told) -> Said
             number: 0,
             first: number as u64,
             second: 0,
+            third: 0,
         },
         Told::Refused { why, word } => Said {
             number: refusal::number(why),
             first: word,
             second: 0,
+            third: 0,
         },
     }
 }
@@ -78,11 +89,13 @@ fn of_made(answer: Made) -> Said
             number: 0,
             first: word,
             second: 0,
+            third: 0,
         },
         Made::Refused(why) => Said {
             number: refusal::number(why),
             first: 0,
             second: 0,
+            third: 0,
         },
     }
 }
@@ -112,6 +125,7 @@ pub fn ask(call: u64, width: usize, word: u64, a: usize, b: usize) -> Said
             number: 16,
             first: 0,
             second: 0,
+            third: 0,
         },
     }
 }

@@ -1,4 +1,4 @@
-// One recorded answer: 96 bytes with the line feed, its fields in lower-case hex at fixed places.
+// One recorded answer: 101 bytes with the line feed, its fields in lower-case hex at fixed places.
 ghost use mathlib.Core.Path.{_≡_};
 ghost use Rattle.replay_slots.specs.Lines.{replayedOf, agreed};
 use crate::asked;
@@ -26,5 +26,8 @@ pub fn agrees(text: &[u8]) -> bool
     if said.first != hex::sixteen(text, 74) {
         return false;
     }
-    said.second == hex::four(text, 91)
+    if said.second != hex::four(text, 91) {
+        return false;
+    }
+    said.third == hex::four(text, 96)
 }

@@ -7,7 +7,7 @@ mod line;
 fn main() {
     let mut tally = tally::none();
     while tally.answers < u64::MAX {
-        let mut text = [0u8; 96];
+        let mut text = [0u8; 101];
         if !tally::next(&mut text) {
             break;
         }

@@ -1,14 +1,15 @@
-// A recorded call put to the library `wide_bank`, and its answer: a number, a value, and the bank that is handed back.
+// A recorded call put to the library `wide_bank`, and its answer: a number, two values, and the bank that is handed back.
 use wide_bank::Changed;
 use wide_bank::Handed;
 use wide_bank::Inserted;
 use wide_bank::Outcome;
 use wide_bank::Told;
 
-// What a call said: 0 or the number of a refusal, a number told or 0, and the bank.
+// What a call said: 0 or the number of a refusal, a number told or 0, how many rest or 0, and the bank.
 pub struct Said {
     pub number: u64,
     pub told: u64,
+    pub resting: u64,
     pub bank: [u8; 25],
 }
 
@@ -20,29 +21,33 @@ fn of_changed(answer: Changed) -> Said {
         Outcome::Accepted => Said {
             number: 0,
             told: 0,
+            resting: 0,
             bank,
         },
         Outcome::Refused(why) => Said {
             number: refusal::number(why),
             told: 0,
+            resting: 0,
             bank,
         },
     }
 }
 
-// The bank after an insertion and the slot handed out, or a refusal and the bank as it was.
+// The bank after an insertion, the slot handed out and how many rest, or a refusal and the bank as it was.
 fn of_inserted(answer: Inserted) -> Said {
     let bank = answer.bank;
     let handed = answer.handed;
     match handed {
-        Handed::Slot(slot) => Said {
+        Handed::Slot { slot, resting } => Said {
             number: 0,
             told: slot as u64,
+            resting: resting as u64,
             bank,
         },
         Handed::Refused(why) => Said {
             number: refusal::number(why),
             told: 0,
+            resting: 0,
             bank,
         },
     }
@@ -54,11 +59,13 @@ fn of_told(answer: Told, bank: [u8; 25]) -> Said {
         Told::Number(number) => Said {
             number: 0,
             told: number as u64,
+            resting: 0,
             bank,
         },
         Told::Refused(why) => Said {
             number: refusal::number(why),
             told: 0,
+            resting: 0,
             bank,
         },
     }
@@ -83,6 +90,7 @@ pub(crate) fn ask(call: u64, width: usize, bank: [u8; 25], a: usize, b: usize) -
         _ => Said {
             number: 16,
             told: 0,
+            resting: 0,
             bank,
         },
     }

@@ -1,4 +1,4 @@
-// One recorded answer: 164 bytes with the line feed, its fields in lower-case hex at fixed places.
+// One recorded answer: 169 bytes with the line feed, its fields in lower-case hex at fixed places.
 ghost use mathlib.Core.Bool.{true};
 ghost use mathlib.Core.Path.{_≡_};
 ghost use Prim.Native.Nat.{_+_, _≤_};
@@ -42,6 +42,9 @@ pub(crate) fn agrees(text: &[u8]) -> bool {
         return false;
     }
     if said.told != hex::four(text, 159) {
+        return false;
+    }
+    if said.resting != hex::four(text, 164) {
         return false;
     }
     let after = said.bank;

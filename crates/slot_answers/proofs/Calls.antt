@@ -82,11 +82,11 @@ module _ (w word : ℕ) where
         unfolding judgedIn
         fine = rw (le-leb 1 w (omega arith), le-leb w 15 o, ← e, not-false v h)
 
-        pub insert-right : {r q : ℕ} → i ≤ n → r ≡ wordOf (insertedFromBack i (bankOf w word))
-            → q ≡ word / 2 ^ (4 * w) % 16 → accepted (r ∷ q ∷ []) ≡ changed w word (insertFromBack i)
-        insert-right l d b =
+        pub insert-right : {r q k : ℕ} → i ≤ n → r ≡ wordOf (insertedFromBack i (bankOf w word))
+            → q ≡ word / 2 ^ (4 * w) % 16 → k ≡ w - (n + 1) → accepted (r ∷ q ∷ k ∷ []) ≡ changed w word (insertFromBack i)
+        insert-right l d b k =
             insert-so (words w) word (word-width w word fine refl) (word-valid w word fine refl) i (wide-word w word) s l m d
-            (back-word w word fine refl b) refl
+            (back-word w word fine refl b) k refl
 
 -- ---- any call that breaks a rule of its own, after the judgement
 

@@ -15,9 +15,9 @@ abbrev pub saidChanged : Changed → Answer
 saidChanged (C.Word word) = accepted (word ∷ [])
 saidChanged (C.Refused why word) = refused why (word ∷ [])
 
--- an insertion: 0, the new word and the slot handed out, or the refusal's number and the word as given
+-- an insertion: 0, the new word, the slot handed out and how many rest, or the refusal's number and the word as given
 abbrev pub saidInserted : Inserted → Answer
-saidInserted (I.Slot word slot) = accepted (word ∷ slot ∷ [])
+saidInserted (I.Slot word slot resting) = accepted (word ∷ slot ∷ resting ∷ [])
 saidInserted (I.Refused why word) = refused why (word ∷ [])
 
 -- a question: 0 and the number told, or the refusal's number and the word as given

@@ -7,10 +7,17 @@ pub enum Changed {
     Refused { why: Refusal, word: u64 },
 }
 
-// The word after an insertion and the slot handed out, or the word as it was given.
+// The word after an insertion, the slot handed out and how many rest, or the word as it was given.
 pub enum Inserted {
-    Slot { word: u64, slot: usize },
-    Refused { why: Refusal, word: u64 },
+    Slot {
+        word: u64,
+        slot: usize,
+        resting: usize,
+    },
+    Refused {
+        why: Refusal,
+        word: u64,
+    },
 }
 
 // A number told of a word, or the word as it was given.

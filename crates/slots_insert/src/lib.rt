@@ -13,8 +13,9 @@ use refusal::Refusal;
 use slot_answers::Inserted;
 use turns::inside;
 
-// The slot at the back is put to use at position i. Its own rules are tried first and the word last, so that an accepted call, the
-// usual one, judges once and does nothing for a refusal; which refusal has the lowest number is settled behind.
+// The slot at the back is put to use at position i; how many still rest is told beside it. Its own rules are tried first and the word
+// last, so that an accepted call, the usual one, judges once and does nothing for a refusal; which refusal has the lowest number is
+// settled behind.
 pub fn insert_from_back(word: u64, width: usize, i: usize) -> Inserted
     ensures { λ r. ⌜ saidInserted r ≡ changed width word (insertFromBack i) ⌝ }
 {
@@ -43,9 +44,11 @@ pub fn insert_from_back(word: u64, width: usize, i: usize) -> Inserted
             word,
         };
     }
+    let more = size + 1;
     Inserted::Slot {
         word: inside::inserted(word, width, i),
         slot: inside::nibble(word, width),
+        resting: width - more,
     }
 }
 

@@ -1,5 +1,5 @@
 -- What a put writes: a law for each way in which the code returns. Assumes nothing.
-use mathlib.Core.Path.{_≡_, sym, ap, _∙_}
+use mathlib.Core.Path.{_≡_, refl, sym, ap, _∙_}
 use mathlib.Core.List.{List}
 use Prim.Native.Nat.{ℕ, _+_, _*_, _-_, _/_, _≤_, _<_}
 use native.Mathlib.Numerals.{add-one}
@@ -16,9 +16,9 @@ use Rattle.forest.specs.Nodes.{slotsAt}
 use Rattle.model.specs.declared.Met.{Met}
 use Rattle.model.specs.declared.Met.the-variants.{Stored, Conflict, Missing}
 use Rattle.model.specs.Meet.{numberWord}
-use Rattle.model.specs.Grow.{entryFor, layerGrown, layersGrown}
-use Rattle.model.specs.Calls.{nodesWith, withCount}
-use Rattle.store.specs.Places.{withAt, Lent}
+use Rattle.model.specs.Grow.{entryFor, layerGrown, layerRests, layersGrown}
+use Rattle.model.specs.Calls.{freshCell, nodesWith, withCount, restsPassed}
+use Rattle.store.specs.Places.{withAt, restsWith, Lent}
 use Rattle.store.proofs.Counting.{counted}
 
 module _ (nodes : List ℕ) (leaf p : ℕ) {slot : ℕ} (s : slot ≡ slotAt p (slotsOf (getD nodes (2 + leaf * 47 + 1) 0))) where
@@ -55,6 +55,27 @@ module _ (nodes cells bytes key : List ℕ) (c : ℕ) {met : Met} (l : Lent node
 
   pub put-stored-none : {leaf p cell : ℕ} → met ≡ Stored leaf p cell → nodes ≡ nodesWith (memory nodes cells bytes) key c met
   put-stored-none q = rw q
+
+  pub rests-stored : {leaf p cell : ℕ} → met ≡ Stored leaf p cell → 0 ≡ restsWith (memory nodes cells bytes) key c met
+  rests-stored q = rw q
+
+  pub rests-conflict : {leaf p cell links : ℕ} → met ≡ Conflict leaf p cell links → 13 ≡ restsWith (memory nodes cells bytes) key c met
+  rests-conflict q = rw q
+
+  pub rests-missing : {holder root links : ℕ} {d : Entry} {r : ℕ} → met ≡ Missing holder root links → d ≡ entryFor key c links
+      → r ≡ layerRests nodes (length nodes / 47) root d → r ≡ restsWith (memory nodes cells bytes) key c met
+  rests-missing q ed e = rw (q, e, ed, counted (length nodes) (l .nodes-lent))
+
+-- in the lowest free cell, what is passed up
+rests-fresh : (m : Memory) (key : List ℕ) (met : Met) → restsWith m key (freshCell m) met ≡ restsPassed m key met
+rests-fresh m key (Stored leaf p cell) = refl
+rests-fresh m key (Conflict leaf p cell links) = refl
+rests-fresh m key (Missing holder root links) = refl
+
+pub rests-passed : (nodes cells bytes key : List ℕ) (met : Met) {c r : ℕ} → c ≡ getD (freeCells cells (cellCount (length cells))) 0 0
+    → r ≡ restsWith (memory nodes cells bytes) key c met → r ≡ restsPassed (memory nodes cells bytes) key met
+rests-passed nodes cells bytes key met e q =
+    q ∙ ap (λ (x : ℕ). restsWith (memory nodes cells bytes) key x met) e ∙ rests-fresh (memory nodes cells bytes) key met
 
 module _ (nodes cells bytes key : List ℕ) (frame : ℕ) (met : Met) where
   pub put-all : {c : ℕ} {n1 c1 b1 : List ℕ} → c ≡ getD (freeCells cells (cellCount (length cells))) 0 0

@@ -8,6 +8,9 @@ use Rattle.arena.specs.Layout.{putCell, putKey}
 use Rattle.arena.specs.Free.{freeNodes, freeCells}
 use Rattle.arena.specs.Memory.{Memory, memory, nodeCount, cellCount}
 use Rattle.model.specs.declared.Met.{Met}
+use Rattle.model.specs.declared.Met.the-variants.{Stored, Conflict, Missing}
+use Rattle.model.specs.Leaves.{restOf}
+use Rattle.model.specs.Grow.{entryFor, layerRests}
 use Rattle.model.specs.Calls.{nodesOf, neededAt, freshCell, nodesWith}
 use Rattle.seek.specs.Lengths.{NodesLent, CellsLent}
 use Rattle.seek.specs.Within.{Within}
@@ -26,6 +29,13 @@ withAt m key frame met =
     memory (nodesWith m key (freshCell m) met)
     (putCell (m .cells) (freshCell m) (length key) frame)
     (putKey (m .bytes) (freshCell m) key)
+
+-- how many slots rest in the leaf that the entry of a new key, in this cell, goes into at this place; in a new leaf, after a conflict,
+-- two are in use
+abbrev pub restsWith : Memory → List ℕ → ℕ → Met → ℕ
+restsWith m key cell (Stored leaf position other) = 0
+restsWith m key cell (Conflict leaf position other links) = restOf 2
+restsWith m key cell (Missing holder root links) = layerRests (m .nodes) (nodesOf m) root (entryFor key cell links)
 
 -- right lent lengths, with a node and a cell at least, and a place within them
 pub record Lent (nodes cells bytes : List ℕ) (met : Met) : Type 0 where

@@ -11,9 +11,9 @@ ghost use Rattle.arena.specs.Memory.{memory, nodeCount, cellCount};
 ghost use Rattle.forest.specs.Nodes.{slotsAt};
 ghost use Rattle.model.specs.Meet.{numberWord};
 ghost use Rattle.forest.specs.Count.{countOf};
-ghost use Rattle.model.specs.Calls.{neededAt, nodesWith, withCount};
+ghost use Rattle.model.specs.Calls.{neededAt, nodesWith, withCount, restsPassed};
 ghost use Rattle.seek.specs.Lengths.{NodesLent, CellsLent};
-ghost use Rattle.store.specs.Places.{hasCellIn, lackingAt, withAt, Lent};
+ghost use Rattle.store.specs.Places.{hasCellIn, lackingAt, withAt, restsWith, Lent};
 use arena::inside::Lowest;
 use memory_layout::CELL_BYTES;
 use memory_layout::CELL_WORDS;
@@ -126,11 +126,13 @@ fn make_link(nodes: &mut [u64], leaf: u64, position: usize) -> usize
     at + REFS + slot
 }
 
-// Puts the key's entry into the nodes: in its layer, or below the entry that it is in conflict with.
-fn put_nodes(nodes: &mut [u64], cells: &[u64], bytes: &[u8], key: &[u8], c: u64, met: Met)
+// Puts the key's entry into the nodes: in its layer, or below the entry that it is in conflict with. Tells how many slots rest in the
+// leaf where the entry is then.
+fn put_nodes(nodes: &mut [u64], cells: &[u64], bytes: &[u8], key: &[u8], c: u64, met: Met) -> usize
     requires { ⌜ Lent (now nodes) (now cells) (now bytes) met ⌝ }
-    ensures { λ _. ⌜ now (nodes .exit) ≡ nodesWith (memory (now (nodes .entry)) (now (cells .entry)) (now (bytes .entry)))
-        (now (key .entry)) c met ⌝ }
+    ensures { λ r. ⌜ (now (nodes .exit) ≡ nodesWith (memory (now (nodes .entry)) (now (cells .entry)) (now (bytes .entry)))
+        (now (key .entry)) c met)
+        × (r ≡ restsWith (memory (now (nodes .entry)) (now (cells .entry)) (now (bytes .entry))) (now (key .entry)) c met) ⌝ }
 {
     let count = nodes.len() / NODE_WORDS;
     match met {
@@ -138,7 +140,7 @@ fn put_nodes(nodes: &mut [u64], cells: &[u64], bytes: &[u8], key: &[u8], c: u64,
             leaf: _,
             position: _,
             cell: _,
-        } => {}
+        } => 0,
         Met::Conflict {
             leaf,
             position,
@@ -148,6 +150,7 @@ fn put_nodes(nodes: &mut [u64], cells: &[u64], bytes: &[u8], key: &[u8], c: u64,
             let other = key_in(cells, bytes, cell);
             let holder = make_link(nodes, leaf, position);
             grow::inside::grow_layers(nodes, count, holder, key, c, other, cell, links + 1);
+            13
         }
         Met::Missing {
             holder,
@@ -155,20 +158,30 @@ fn put_nodes(nodes: &mut [u64], cells: &[u64], bytes: &[u8], key: &[u8], c: u64,
             links,
         } => {
             let e = grow::inside::entry_for(key, c, links);
-            grow::inside::grow_layer(nodes, count, holder, root, e);
+            grow::inside::grow_layer(nodes, count, holder, root, e)
         }
     }
 }
 
-// Puts the key's entry into the nodes, and the key with its frame number into the lowest free cell.
-fn put_new(nodes: &mut [u64], cells: &mut [u64], bytes: &mut [u8], key: &[u8], frame: u64, met: Met)
+// Puts the key's entry into the nodes, and the key with its frame number into the lowest free cell. Tells how many slots rest in the leaf
+// where the entry is then.
+fn put_new(
+    nodes: &mut [u64],
+    cells: &mut [u64],
+    bytes: &mut [u8],
+    key: &[u8],
+    frame: u64,
+    met: Met,
+) -> usize
     requires { ⌜ Lent (now nodes) (now cells) (now bytes) met × (length (now key) ≤ 256) ⌝ }
-    ensures { λ _. ⌜ memory (now (nodes .exit)) (now (cells .exit)) (now (bytes .exit))
-        ≡ withAt (memory (now (nodes .entry)) (now (cells .entry)) (now (bytes .entry))) (now (key .entry)) frame met ⌝ }
+    ensures { λ r. ⌜ (memory (now (nodes .exit)) (now (cells .exit)) (now (bytes .exit))
+        ≡ withAt (memory (now (nodes .entry)) (now (cells .entry)) (now (bytes .entry))) (now (key .entry)) frame met)
+        × (r ≡ restsPassed (memory (now (nodes .entry)) (now (cells .entry)) (now (bytes .entry))) (now (key .entry)) met) ⌝ }
 {
     let c = lowest_cell(cells);
-    put_nodes(nodes, cells, bytes, key, c as u64, met);
+    let resting = put_nodes(nodes, cells, bytes, key, c as u64, met);
     arena::inside::store_cell(cells, bytes, c, key, frame);
+    resting
 }
 
 // The same, and one entry more is counted.
@@ -179,13 +192,15 @@ pub fn put_counted(
     key: &[u8],
     frame: u64,
     met: Met,
-)
+) -> usize
     requires { ⌜ Lent (now nodes) (now cells) (now bytes) met × (length (now key) ≤ 256) × (getD (now nodes) 1 0 ≤ mostLent) ⌝ }
-    ensures { λ _. ⌜ memory (now (nodes .exit)) (now (cells .exit)) (now (bytes .exit))
+    ensures { λ r. ⌜ (memory (now (nodes .exit)) (now (cells .exit)) (now (bytes .exit))
         ≡ withCount (withAt (memory (now (nodes .entry)) (now (cells .entry)) (now (bytes .entry))) (now (key .entry)) frame met)
-        (countOf (memory (now (nodes .entry)) (now (cells .entry)) (now (bytes .entry))) + 1) ⌝ }
+        (countOf (memory (now (nodes .entry)) (now (cells .entry)) (now (bytes .entry))) + 1))
+        × (r ≡ restsPassed (memory (now (nodes .entry)) (now (cells .entry)) (now (bytes .entry))) (now (key .entry)) met) ⌝ }
 {
     let count = nodes[1];
-    put_new(nodes, cells, bytes, key, frame, met);
+    let resting = put_new(nodes, cells, bytes, key, frame, met);
     edit::inside::put_at(nodes, 1, count + 1);
+    resting
 }

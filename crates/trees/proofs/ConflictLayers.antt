@@ -13,17 +13,20 @@ use Rattle.order.proofs.Changes.{alter-sum, alter-map}
 use Rattle.order.proofs.Map.{alter-sorted, alter-all, alter-length}
 use Rattle.trees.specs.Nodes.{IkeyClass, layerOrder, free, leaf, NodeList, nodeIn, InBounds, oneAt}
 use Rattle.trees.specs.FreeNumbers.{freeNumbers, timesIn, lowestFree}
-use Rattle.trees.specs.Paths.{raisedIkey, BelowLinks, layerKey, pathDown}
+use Rattle.trees.specs.Paths.{raisedIkey, restBelow, BelowLinks, layerKey, pathDown}
 use Rattle.trees.specs.Entries.{EntryValue, cellValue, cellKey, FitsLayers}
 use Rattle.trees.specs.EntriesPut.{twoEntries, conflictEntries}
 use Rattle.trees.specs.Layers.{Pointer, cell, link, LayeredValue, Layered, layeredCell, bareValue, bareEntry, layerRoot, pointerOf}
 use Rattle.trees.specs.Layers.{pointerEntry, valueReaches, LayerBecame}
 use Rattle.trees.specs.LayersPut.{conflictCount, conflictLeaf, conflictWritten}
+use Rattle.trees.specs.LeafOfKey.{leafOfKey}
 use Rattle.trees.proofs.Nodes.{layer-order, oneAt-same, oneAt-other}
 use Rattle.trees.proofs.FreeNumbers.{lowest-taken}
 use Rattle.trees.proofs.Paths.{class-le, bytes-rest}
-use Rattle.trees.proofs.EntriesPut.{fits-more, both-longer}
+use Rattle.trees.proofs.EntriesPut.{short-class, same-key, fits-more, both-longer}
 use Rattle.trees.proofs.Layers.{bareValue-one, pointerOf-one, valueReaches-one, HoldsValue-one, alter-holds}
+use Rattle.trees.proofs.LeafOfKey.{found-put, two-entries, ends-here, goes-on}
+use Rattle.order.proofs.Lookup.{lookup-head}
 
 -- the ikey and class of the key in cell b, below a path
 abbrev cellLayerKey : (ℕ → List ℕ × ℕ) → List ℕ → ℕ → IkeyClass
@@ -55,15 +58,19 @@ module _ (top mid : ℕ) (cut : List (IkeyClass × Pointer) → ℕ) (hi : ℕ) 
         (λ o. some (cellValue l c)) ((cellLayerKey at ks b, layeredCell l b) ∷ []) (ap some (bareValue-one l c))
         ∙ ap (λ p. alter layerOrder (cellLayerKey at ks c) (λ o. some (cellValue l c)) ((cellLayerKey at ks b, p) ∷ [])) (bareValue-one l b)
 
-    -- Memory m has become m′, with a new layer in the lowest free node, for n nodes, whose entries are es.
+    -- Memory m has become m′, with a new layer in the lowest free node, for n nodes, whose entries are es; the leaf of the key has two.
     abbrev pub ConflictBecame : (b l : ℕ) → List ℕ → NodeList Pointer → List (IkeyClass × EntryValue l) → ℕ → NodeList Pointer → Type 0
     ConflictBecame b l ks m es n m′ = (w : Layered l) × LayerBecame top hi l (λ j. 0) n m w (lowestFree m, m′)
-        × (map (bareEntry l) (w .1) ≡ es)
+        × (map (bareEntry l) (w .1) ≡ es) × (length (leafOfKey (cellKey at c) l ks w) ≡ 2)
+
+    -- the two cells' ikeys or classes differ at this layer
+    abbrev Apart : (b : ℕ) → List ℕ → Type 0
+    Apart b ks = layerOrder (cellLayerKey at ks c) (cellLayerKey at ks b) ≢ Ordering·eq
 
     last-became-at : (b l : ℕ) (ks : List ℕ) (m : NodeList Pointer) → BelowLinks ks (cellKey at c) → BelowLinks ks (cellKey at b)
-        → (r : ℕ) (fs : List ℕ) → freeNumbers 0 m ≡ r ∷ fs
+        → Apart b ks → (r : ℕ) (fs : List ℕ) → freeNumbers 0 m ≡ r ∷ fs
         → ConflictBecame b l ks m (twoEntries at c b l ks) 1 (set m (lowestFree m) (leaf (conflictLeaf at (cellKey at c) c ks b)))
-    last-became-at b l ks m uc ub r fs fe =
+    last-became-at b l ks m uc ub apart r fs fe =
         let x = leaf (conflictLeaf at (cellKey at c) c ks b) in
         let (r<, left) = lowest-taken m r fs x tt fe in
         let F : ℕ → LayeredValue l → ℕ = λ j v. valueReaches l v j in (
@@ -98,12 +105,15 @@ module _ (top mid : ℕ) (cut : List (IkeyClass × Pointer) → ℕ) (hi : ℕ) 
                 ));
           }),
           twoLayered-bare b l ks,
+          ap length (ends-here (cellKey at c) ks l c ((zero, (r, conflictLeaf at (cellKey at c) c ks b)), twoLayered b l ks)
+              (found-put (cellLayerKey at ks c) (layeredCell l c) ((cellLayerKey at ks b, layeredCell l b) ∷ [])))
+              ∙ two-entries (cellLayerKey at ks c) (cellLayerKey at ks b) (cell c) (cell b) apart,
         )
 
     last-became : (b l : ℕ) (ks : List ℕ) (m : NodeList Pointer) → BelowLinks ks (cellKey at c) → BelowLinks ks (cellKey at b)
-        → 1 ≤ length (freeNumbers 0 m)
+        → Apart b ks → 1 ≤ length (freeNumbers 0 m)
         → ConflictBecame b l ks m (twoEntries at c b l ks) 1 (set m (lowestFree m) (leaf (conflictLeaf at (cellKey at c) c ks b)))
-    last-became b l ks m uc ub en = let (r, fs, fe) = uncons (freeNumbers 0 m) en in last-became-at b l ks m uc ub r fs fe
+    last-became b l ks m uc ub apart en = let (r, fs, fe) = uncons (freeNumbers 0 m) en in last-became-at b l ks m uc ub apart r fs fe
 
     -- a leaf with one link over what the rest makes
     link-became : (b l : ℕ) (ks : List ℕ) (m : NodeList Pointer) → BelowLinks ks (cellKey at c)
@@ -111,7 +121,7 @@ module _ (top mid : ℕ) (cut : List (IkeyClass × Pointer) → ℕ) (hi : ℕ) 
         → (es : List (IkeyClass × EntryValue l)) (n : ℕ) (m′ : NodeList Pointer)
         → ConflictBecame b l (pathDown (cellKey at c) ks) (set m r (leaf ((cellLayerKey at ks c, link (getD fs 0 0)) ∷ []))) es n m′
         → ConflictBecame b (suc l) ks m ((cellLayerKey at ks c, inr es) ∷ []) (suc n) m′
-    link-became b l ks m uc u r fs fe es n m′ (w, D, E) =
+    link-became b l ks m uc u r fs fe es n m′ (w, D, E, F) =
         let y = leaf ((cellLayerKey at ks c, link (getD fs 0 0)) ∷ []) in
         let (r<, left) = lowest-taken m r fs y tt fe in
         let lf : (j : ℕ) → timesIn (freeNumbers 0 (set m r y)) j + oneAt r j ≡ timesIn (freeNumbers 0 m) j =
@@ -132,6 +142,10 @@ module _ (top mid : ℕ) (cut : List (IkeyClass × Pointer) → ℕ) (hi : ℕ) 
             keep = λ j. omega (arith, D .keep j, lf j);
           },
           ap (λ es. (cellLayerKey at ks c, inr es) ∷ []) E,
+          ap length (goes-on (cellKey at c) ks l (
+            (zero, (r, (cellLayerKey at ks c, link (layerRoot l w)) ∷ [])),
+            (cellLayerKey at ks c, inr w) ∷ [],
+          ) w (lookup-head layer-order (cellLayerKey at ks c, inr w) [])) ∙ F,
         )
 
     pub conflict-became : (b l : ℕ) (ks : List ℕ) (m : NodeList Pointer) → FitsLayers at l ks (cellKey at c)
@@ -139,7 +153,10 @@ module _ (top mid : ℕ) (cut : List (IkeyClass × Pointer) → ℕ) (hi : ℕ) 
         → conflictCount (cellKey at c) (cellKey at b) l ks ≤ length (freeNumbers 0 m)
         → ConflictBecame b l ks m (conflictEntries at c b l ks) (conflictCount (cellKey at c) (cellKey at b) l ks)
         (conflictWritten at (cellKey at c) c b l ks m)
-    conflict-became b zero ks m fc fb n u en = last-became b zero ks m (fc .0) (fb .0) en
+    conflict-became b zero ks m fc fb n u en =
+        last-became b zero ks m (fc .0) (fb .0)
+        (λ q. n (same-key ks (cellKey at c) (cellKey at b) (fc .0) (fb .0) (layer-order .exact _ _ q)
+        (short-class (restBelow ks (cellKey at c)) (omega (arith, fc .1))))) en
     conflict-became b (suc l) ks m fc fb n u en = go (layerOrder (cellLayerKey at ks c) (cellLayerKey at ks b)) refl
         (conflict-became b l (pathDown (cellKey at c) ks)) en
       where
@@ -159,8 +176,10 @@ module _ (top mid : ℕ) (cut : List (IkeyClass × Pointer) → ℕ) (hi : ℕ) 
             (conflictWritten at (cellKey at c) c b l (pathDown (cellKey at c) ks)
             (set m (lowestFree m) (leaf ((cellLayerKey at ks c, link (getD (freeNumbers 0 m) 1 0)) ∷ []))))
             (set m (lowestFree m) (leaf (conflictLeaf at (cellKey at c) c ks b))))
-        go Ordering·lt q ih en = last-became b (suc l) ks m (fc .0) (fb .0) en
-        go Ordering·gt q ih en = last-became b (suc l) ks m (fc .0) (fb .0) en
+        go Ordering·lt q ih en = last-became b (suc l) ks m (fc .0) (fb .0)
+            (λ e. let z : _≡_ {A = Ordering} Ordering·lt Ordering·eq = sym q ∙ e in let y : _≡_ {A = ℕ} 0 1 = cc in omega arith) en
+        go Ordering·gt q ih en = last-became b (suc l) ks m (fc .0) (fb .0)
+            (λ e. let z : _≡_ {A = Ordering} Ordering·gt Ordering·eq = sym q ∙ e in let y : _≡_ {A = ℕ} 0 1 = cc in omega arith) en
         go Ordering·eq q ih en =
             let e : cellLayerKey at ks c ≡ cellLayerKey at ks b = layer-order .exact _ _ q in
             let x : cellLayerKey at ks c ≡ ((cellLayerKey at ks c) .0, 9) =

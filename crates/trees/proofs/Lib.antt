@@ -2,6 +2,7 @@ pub mod Nodes
 pub mod FreeNumbers
 pub mod Tree
 pub mod TreePut
+pub mod LeafAfter
 pub mod Cut
 pub mod PutInMemory
 pub mod NeededInLayer
@@ -16,6 +17,7 @@ pub mod CellsUsed
 pub mod EntriesRemoved
 pub mod Cells
 pub mod Layers
+pub mod LeafOfKey
 pub mod ConflictLayers
 pub mod Relinked
 pub mod PutThroughLayers

@@ -13,12 +13,13 @@ use Rattle.trees.specs.Nodes.{IkeyClass, layerOrder, free, NodeList}
 use Rattle.trees.specs.FreeNumbers.{freeNumbers, timesIn}
 use Rattle.trees.specs.Tree.{numbered, LowsAgree, AnyTree, anyRoot, anyEntries, anyReaches, HoldsAny, Abutting, lastChild, andNext}
 use Rattle.trees.specs.Tree.{lowOfChildren, TreeOver, internodeOf, treeRoot, treeEntries, treeReaches, HoldsTree, WellFormed}
-use Rattle.trees.specs.TreePut.{CutsWell, staysOne, withRoot, layerNeeds, treePut, splitNodes}
+use Rattle.trees.specs.TreePut.{CutsWell, staysOne, withRoot, layerNeeds, treePut, splitNodes, anyLeaf, leafKept}
 use Rattle.trees.specs.PutInMemory.{memoryPut, memoryWithRoot, layerPut}
 use Rattle.trees.specs.Became.{Became}
 use Rattle.trees.proofs.Nodes.{oneAt-other}
 use Rattle.trees.proofs.FreeNumbers.{lowest-taken}
 use Rattle.trees.proofs.TreePut.{treePut-list, treePut-well-formed}
+use Rattle.trees.proofs.LeafAfter.{layer-leaf}
 use Rattle.trees.proofs.PutInMemory.{all-framed, tree-framed, put-in-step}
 use Rattle.trees.proofs.NeededInLayer.{treePut-size, need-is}
 
@@ -81,12 +82,14 @@ module _ (W : Type 0) (top mid : ℕ) (cut : List (IkeyClass × W) → ℕ) (hi 
       )
 
   module _ (cut-ok : CutsWell W top mid cut) (mid-lo : 1 ≤ mid) (mid-hi : mid ≤ suc top) (tp : 1 ≤ top) where
-    pub layerPut-became : (m : NodeList W) (t : AnyTree W) (k : IkeyClass) (f : Option W → Option W) → k .0 < hi → k .1 ≤ 9
+    -- and what the leaf to which the ikey of k leads has then
+    pub layerPut-leaf : (m : NodeList W) (t : AnyTree W) (k : IkeyClass) (f : Option W → Option W) → k .0 < hi → k .1 ≤ 9
         → HoldsAny W top hi m t → ((j : ℕ) → anyReaches W t j + timesIn (freeNumbers 0 m) j ≤ 1)
         → layerNeeds W top mid cut k f t ≤ length (freeNumbers 0 m)
         → (u : AnyTree W) × TreeBecame (anyReaches W t) (layerNeeds W top mid cut k f t) m u
         (layerPut W top mid cut (t .0) k f (anyRoot W t) m) × (anyEntries W u ≡ alter layerOrder k f (anyEntries W t))
-    layerPut-became m t k f kh kc H once en =
+        × (anyLeaf W (k .0) u ≡ leafKept W top cut (k .0) (alter layerOrder k f (anyLeaf W (k .0) t)))
+    layerPut-leaf m t k f kh kc H once en =
         let d = t .0 in
         let fs = freeNumbers 0 m in
         let a = treePut W top mid cut d k f (0, t .1) fs in
@@ -111,4 +114,12 @@ module _ (W : Type 0) (top mid : ℕ) (cut : List (IkeyClass × W) → ℕ) (hi 
             keep = λ j. omega (arith, G .0 .keep j, D .keep j, ap (λ l. timesIn l j) (D .left));
           }),
           G .1 ∙ treePut-list W top mid cut k f fs d 0 hi (0, t .1) refl (omega arith) kh (omega arith) (H .0),
+          layer-leaf W top mid cut cut-ok mid-lo mid-hi k kc f fs d hi (t .1) kh (H .0),
         )
+
+    pub layerPut-became : (m : NodeList W) (t : AnyTree W) (k : IkeyClass) (f : Option W → Option W) → k .0 < hi → k .1 ≤ 9
+        → HoldsAny W top hi m t → ((j : ℕ) → anyReaches W t j + timesIn (freeNumbers 0 m) j ≤ 1)
+        → layerNeeds W top mid cut k f t ≤ length (freeNumbers 0 m)
+        → (u : AnyTree W) × TreeBecame (anyReaches W t) (layerNeeds W top mid cut k f t) m u
+        (layerPut W top mid cut (t .0) k f (anyRoot W t) m) × (anyEntries W u ≡ alter layerOrder k f (anyEntries W t))
+    layerPut-became m t k f kh kc H once en = let (u, D, E, L) = layerPut-leaf m t k f kh kc H once en in (u, D, E)

@@ -23,19 +23,23 @@ use Rattle.trees.specs.EntriesPut.{putIntoValue}
 use Rattle.trees.specs.Layers.{Pointer, cell, link, LayeredValue, Layered, layeredCell, bareValue, bareEntry, layerRoot, pointerOf}
 use Rattle.trees.specs.Layers.{valueReaches, layerReaches, HoldsValue, HoldsLayer, LayerBecame}
 use Rattle.trees.specs.LayersPut.{byPointer, conflictCount, conflictWritten, layersPut, layersNeed}
+use Rattle.trees.specs.LeafOfKey.{leafOfKey, sizeAfterPut}
 use Rattle.trees.proofs.Nodes.{layer-order}
 use Rattle.trees.proofs.Paths.{class-le}
 use Rattle.trees.proofs.EntriesPut.{short-class, same-key, fits-more, both-longer}
 use Rattle.trees.proofs.Layers.{bareValue-one}
 use Rattle.trees.proofs.ConflictLayers.{cellLayerKey-lt, conflict-became}
 use Rattle.trees.proofs.Relinked.{layer-found, insert-became, relink-became}
+use Rattle.trees.proofs.LeafOfKey.{put-here, put-below}
 
 module _ (top mid : ℕ) (cut : List (IkeyClass × Pointer) → ℕ) (hi : ℕ) (at : ℕ → List ℕ × ℕ) (c : ℕ) where
-  -- Memory m with the layer v has become b, for n nodes: a layer whose entries are those of v with the key of cell c put into them.
+  -- Memory m with the layer v has become b, for n nodes: a layer whose entries are those of v with the key of cell c put into them. The
+  -- leaf of that key has as many entries as the layer before it says.
   abbrev pub PutBecame : (l : ℕ) → List ℕ → NodeList Pointer → Layered l → ℕ → ℕ × NodeList Pointer → Type 0
   PutBecame l ks m v n b = (w : Layered l) × LayerBecame top hi l (layerReaches l v) n m w b
       × (map (bareEntry l) (w .1) ≡ alter layerOrder (layerKey ks (cellKey at c))
       (λ o. some (fromOption (cellValue l c) (putIntoValue at c l ks) o)) (map (bareEntry l) (v .1)))
+      × (length (leafOfKey (cellKey at c) l ks w) ≡ sizeAfterPut (cellKey at c) top cut c l ks v)
 
   -- what the entries of a layer must be
   abbrev pub RightEntries : (l : ℕ) → List ℕ → List (IkeyClass × LayeredValue l) → Type 0
@@ -53,7 +57,7 @@ module _ (top mid : ℕ) (cut : List (IkeyClass × Pointer) → ℕ) (hi : ℕ) 
         → PutBecame l ks m v n (layerPut Pointer top mid cut (v .0 .0) (layerKey ks (cellKey at c)) (λ o. some (cell c)) (layerRoot l v) m)
     put-new l ks m v uc H u q en =
         let k = layerKey ks (cellKey at c) in
-        let (w, D, E) = insert-became top mid cut hi cut-ok mid-lo mid-hi tp l c m v k (lk< ks uc)
+        let (w, D, E, F) = insert-became top mid cut hi cut-ok mid-lo mid-hi tp l c m v k (lk< ks uc)
         (class-le ks (cellKey at c)) H u q en in (
           w,
           D,
@@ -61,6 +65,7 @@ module _ (top mid : ℕ) (cut : List (IkeyClass × Pointer) → ℕ) (hi : ℕ) 
               (λ o. some (fromOption (cellValue l c) (putIntoValue at c l ks) o)) (v .1)
               (ap some (bareValue-one l c) ∙ ap (λ (o : Option (LayeredValue l)). some
               (fromOption (cellValue l c) (putIntoValue at c l ks) (mapOption (bareValue l) o))) (sym q)),
+          put-here (cellKey at c) ks top cut c l v w q E F,
         )
 
     put-over : (l : ℕ) (ks : List ℕ) (m : NodeList Pointer) (v : Layered (suc l)) → BelowLinks ks (cellKey at c)
@@ -69,9 +74,10 @@ module _ (top mid : ℕ) (cut : List (IkeyClass × Pointer) → ℕ) (hi : ℕ) 
         → (n : ℕ) (b : ℕ × NodeList Pointer)
         → (w : Layered l) → LayerBecame top hi l (valueReaches (suc l) old) n m w b
         → bareValue (suc l) (inr w) ≡ putIntoValue at c (suc l) ks (bareValue (suc l) old)
+        → length (leafOfKey (cellKey at c) l (pathDown (cellKey at c) ks) w) ≡ sizeAfterPut (cellKey at c) top cut c (suc l) ks v
         → PutBecame (suc l) ks m v n (layerPut Pointer top mid cut (v .0 .0) (layerKey ks (cellKey at c)) (λ o. some (link (b .0)))
         (layerRoot (suc l) v) (b .1))
-    put-over l ks m v uc H u old q n b w B S =
+    put-over l ks m v uc H u old q n b w B S F =
         let k = layerKey ks (cellKey at c) in
         let (x, D, E) = relink-became top mid cut hi cut-ok mid-lo mid-hi tp l m v k (lk< ks uc)
         (class-le ks (cellKey at c)) H u old q n w b B in (
@@ -81,6 +87,7 @@ module _ (top mid : ℕ) (cut : List (IkeyClass × Pointer) → ℕ) (hi : ℕ) 
               (λ o. some (fromOption (cellValue (suc l) c) (putIntoValue at c (suc l) ks) o)) (v .1)
               (ap some S ∙ ap (λ (o : Option (LayeredValue (suc l))). some
               (fromOption (cellValue (suc l) c) (putIntoValue at c (suc l) ks) (mapOption (bareValue (suc l)) o))) (sym q)),
+          put-below (cellKey at c) ks top cut c l v x w E F,
         )
 
     pub layersPut-became : (l : ℕ) (ks : List ℕ) (m : NodeList Pointer) (v : Layered l) → FitsLayers at l ks (cellKey at c)
@@ -173,10 +180,10 @@ module _ (top mid : ℕ) (cut : List (IkeyClass × Pointer) → ℕ) (hi : ℕ) 
             let n = head (lookup-all layerOrder k layer-order (λ k v. NewKey at c (valueListing at (suc l) v))
             (all-flattened (entryListing at (suc l)) (map (bareEntry (suc l)) (v .1)) N) (inl b) lb) in
             let x : k ≡ (k .0, 9) = both-longer at (suc l) ks (cellKey at c) (cellKey at b) fc (g .0) n (sym (g .1)) in
-            let (w, D, E) = conflict-became top mid cut hi at c hi-ok tp b l ks′ m (fits-more at l ks (k .0) (cellKey at c) fc x)
+            let (w, D, E, F) = conflict-became top mid cut hi at c hi-ok tp b l ks′ m (fits-more at l ks (k .0) (cellKey at c) fc x)
             (fits-more at l ks (k .0) (cellKey at b) (g .0) (g .1 ∙ x)) n (λ j. omega (arith, u j)) en in
             put-over l ks m v (fc .0) H u (inl b) q (conflictCount (cellKey at c) (cellKey at b) l ks′)
-            (lowestFree m, conflictWritten at (cellKey at c) c b l ks′ m) w D (ap inr E)
+            (lowestFree m, conflictWritten at (cellKey at c) c b l ks′ m) w D (ap inr E) (F ∙ rw q)
         go (some (inr w₀)) q ih en =
             let lb : lookup layerOrder k (map (bareEntry (suc l)) (v .1)) ≡ some (bareValue (suc l) (inr w₀)) =
             lookup-map layerOrder k (bareValue (suc l)) (v .1) ∙ ap (mapOption (bareValue (suc l))) q in
@@ -184,7 +191,7 @@ module _ (top mid : ℕ) (cut : List (IkeyClass × Pointer) → ℕ) (hi : ℕ) 
             let n = lookup-all layerOrder k layer-order (λ k v. NewKey at c (valueListing at (suc l) v))
             (all-flattened (entryListing at (suc l)) (map (bareEntry (suc l)) (v .1)) N) (bareValue (suc l) (inr w₀)) lb in
             let h = lookup-all layerOrder k layer-order (λ k v. HoldsValue top hi m (suc l) v) (H .2) (inr w₀) q in
-            let (w, D, E) = ih w₀ (fits-more at l ks (k .0) (cellKey at c) fc (ap (λ (y : ℕ). (k .0, y)) (g .0))) h (g .1, g .2) n
+            let (w, D, E, F) = ih w₀ (fits-more at l ks (k .0) (cellKey at c) fc (ap (λ (y : ℕ). (k .0, y)) (g .0))) h (g .1, g .2) n
             (λ j. omega (arith, u j, le (inr w₀) q j)) en in
             put-over l ks m v (fc .0) H u (inr w₀) q (layersNeed top at (cellKey at c) l ks′ (layerRoot l w₀) m)
-            (layersPut top mid cut at (cellKey at c) c l ks′ (layerRoot l w₀) m) w D (ap inr E)
+            (layersPut top mid cut at (cellKey at c) c l ks′ (layerRoot l w₀) m) w D (ap inr E) (F ∙ rw q)

@@ -13,13 +13,13 @@ use Rattle.order.proofs.Changes.{worth-le, lookup-map, alter-sum, alter-map, in
 use Rattle.trees.specs.Nodes.{IkeyClass, layerOrder, NodeList}
 use Rattle.trees.specs.FreeNumbers.{freeNumbers, timesIn}
 use Rattle.trees.specs.Tree.{anyReaches, HoldsAny}
-use Rattle.trees.specs.TreePut.{CutsWell, treeFind, layerNeeds}
+use Rattle.trees.specs.TreePut.{CutsWell, treeFind, layerNeeds, anyLeaf, leafKept}
 use Rattle.trees.specs.PutInMemory.{layerPut}
 use Rattle.trees.specs.FindInMemory.{heightFrom, memoryFind, memoryNeeds}
 use Rattle.trees.specs.Layers.{Pointer, cell, link, LayeredValue, Layered, layeredCell, layerRoot, pointerOf, valueReaches}
 use Rattle.trees.specs.Layers.{layerReaches, HoldsValue, HoldsLayer, LayerBecame}
 use Rattle.trees.proofs.FindInTree.{heightFrom-is, memoryFind-is, treeFind-is, needs-nothing, memoryNeeds-new}
-use Rattle.trees.proofs.OneLayer.{lows-agree, layerPut-became}
+use Rattle.trees.proofs.OneLayer.{lows-agree, layerPut-leaf, layerPut-became}
 use Rattle.trees.proofs.Depth.{height-below-length}
 use Rattle.trees.proofs.Layers.{pointerOf-one, valueReaches-one, HoldsValue-one, any-framed, value-framed, alter-holds}
 
@@ -50,6 +50,8 @@ module _ (top mid : ℕ) (cut : List (IkeyClass × Pointer) → ℕ) (hi : ℕ) 
         → (w : Layered l) × LayerBecame top hi l (layerReaches l v) (memoryNeeds Pointer top (v .0 .0) (k .0) (0, layerRoot l v) m 1) m w
         (layerPut Pointer top mid cut (v .0 .0) k (λ o. some (cell c)) (layerRoot l v) m)
         × (w .1 ≡ alter layerOrder k (λ o. some (layeredCell l c)) (v .1))
+        × (anyLeaf Pointer (k .0) (w .0)
+        ≡ leafKept Pointer top cut (k .0) (alter layerOrder k (λ o. some (cell c)) (anyLeaf Pointer (k .0) (v .0))))
     insert-became l c m v k kh kc H u q en =
         let d = v .0 .0 in
         let t = v .0 .1 in
@@ -59,7 +61,7 @@ module _ (top mid : ℕ) (cut : List (IkeyClass × Pointer) → ℕ) (hi : ℕ) 
         let n : memoryNeeds Pointer top d (k .0) (0, layerRoot l v) m 1 ≡ layerNeeds Pointer top mid cut k f (v .0) =
         memoryNeeds-new Pointer top mid cut k (cell c) m d 1 (0, t) (H .0 .1) (lows-agree Pointer top mid cut hi d 0 hi t (H .0 .0))
         (L .1 ∙ ap (mapOption (pointerOf l)) q) in
-        let (a, D, E) = layerPut-became Pointer top mid cut hi cut-ok mid-lo mid-hi (omega arith) m (v .0) k f kh kc (H .0)
+        let (a, D, E, F) = layerPut-leaf Pointer top mid cut hi cut-ok mid-lo mid-hi (omega arith) m (v .0) k f kh kc (H .0)
         (λ j. omega (arith, u j)) (omega arith) in
         let m′ = (layerPut Pointer top mid cut d k f (layerRoot l v) m) .1 in
         let S : (j : ℕ) → total (λ e. valueReaches l (e .1) j) (alter layerOrder k (λ o. some (layeredCell l c)) es)
@@ -86,6 +88,7 @@ module _ (top mid : ℕ) (cut : List (IkeyClass × Pointer) → ℕ) (hi : ℕ) 
             keep = λ j. omega (arith, D .keep j, S j);
           },
           refl,
+          F,
         )
 
     -- an entry that points to w after a change below, of what it was before

@@ -19,6 +19,7 @@ use Rattle.trees.specs.Entries.{RightLayer, EntryValue, cellKey, entryLi
 use Rattle.trees.specs.Cells.{CellList, cellAt, freeCellNumbers}
 use Rattle.trees.specs.Layers.{Pointer, Layered, layerRoot}
 use Rattle.trees.specs.LayersPut.{layersPut, layersNeed}
+use Rattle.trees.specs.LeafOfKey.{leafOfKey, sizeAfterPut}
 use Rattle.trees.specs.WholeTree.{onesBelow, bareEntries, layerUses, layerListing, IsWholeTree}
 use Rattle.trees.proofs.Nodes.{oneAt-other}
 use Rattle.trees.proofs.EntriesPut.{layer-put-list}
@@ -54,6 +55,7 @@ module _ (top mid : ℕ) (cut : List (IkeyClass × Pointer) → ℕ) (hi : ℕ) 
         (cellAt cs′) K c l [] r m in n ≤ length (freeNumbers 0 m)
         → (w : Layered l) × IsWholeTree top hi l N C (b .1) cs′ (b .0) w
         × (layerListing l cs′ w ≡ alter bytewise K (λ o. some x) (layerListing l cs v)) × (freeNumbers 0 (b .1) ≡ drop n (freeNumbers 0 m))
+        × (length (leafOfKey K l [] w) ≡ sizeAfterPut K top cut c l [] v)
     whole-put m cs r v T K x by le new c fs fe en =
         let cs′ = set cs c (some (K, x)) in
         let at = cellAt cs in
@@ -85,7 +87,7 @@ module _ (top mid : ℕ) (cut : List (IkeyClass × Pointer) → ℕ) (hi : ℕ) 
         (λ j. omega (arith, T .nodes j, onesBelow-le N j)))
         (subst (λ n. n ≤ length (freeNumbers 0 m)) (sym ns)
         (subst (λ r. layersNeed top at K l [] r m ≤ length (freeNumbers 0 m)) (sym q) en)) in
-        let (w, D, E) = Z in
+        let (w, D, E, F) = Z in
         let U : (j : ℕ) → layerUses l w j ≡ oneAt c j + layerUses l v j =
         λ j. ap (λ (es : List (IkeyClass × EntryValue l)). total (λ e. cellUses l (e .1) j) es) E
         ∙ layer-put-uses at′ c l [] es j fits (good′ .1) new′ in
@@ -97,7 +99,8 @@ module _ (top mid : ℕ) (cut : List (IkeyClass × Pointer) → ℕ) (hi : ℕ) 
         subst (λ r. let n = layersNeed top at K l [] r m in let b = layersPut top mid cut at′ K c l [] r m in
         (w : Layered l) × IsWholeTree top hi l N C (b .1) cs′ (b .0) w
         × (layerListing l cs′ w ≡ alter bytewise K (λ o. some x) (layerListing l cs v))
-        × (freeNumbers 0 (b .1) ≡ drop n (freeNumbers 0 m))) q (
+        × (freeNumbers 0 (b .1) ≡ drop n (freeNumbers 0 m))
+        × (length (leafOfKey K l [] w) ≡ sizeAfterPut K top cut c l [] v)) q (
           w,
           record {
             rooted = D .rooted;
@@ -109,4 +112,5 @@ module _ (top mid : ℕ) (cut : List (IkeyClass × Pointer) → ℕ) (hi : ℕ) 
           },
           L,
           D .left ∙ ap (λ n. drop n (freeNumbers 0 m)) ns,
+          subst (λ (J : List ℕ). length (leafOfKey J l [] w) ≡ sizeAfterPut J top cut c l [] v) kc F,
         )

@@ -14,4 +14,5 @@ pub mod Cells
 pub mod Layers
 pub mod LayersPut
 pub mod LayersFound
+pub mod LeafOfKey
 pub mod WholeTree

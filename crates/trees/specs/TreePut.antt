@@ -103,3 +103,20 @@ module _ (W : Type 0) (top mid : ℕ) (cut : List (IkeyClass × W) → ℕ) wher
   -- the numbers that a put into the whole tree takes: one for each split node, one more for a new root
   abbrev pub layerNeeds : IkeyClass → (Option W → Option W) → AnyTree W → ℕ
   layerNeeds k f t = treeNeeds W top mid cut (t .0) k f (0, t .1) 1
+
+module _ (W : Type 0) where
+  -- the entries of the leaf that x leads to
+  abbrev pub treeLeaf : (d : ℕ) → ℕ → TreeOver W d → List (IkeyClass × W)
+  treeLeaf zero x t = t .1
+  treeLeaf (suc d) x t = ofChild [] (λ q. treeLeaf d x (q .1)) x (t .1)
+
+  -- the same in a tree of any height
+  abbrev pub anyLeaf : ℕ → AnyTree W → List (IkeyClass × W)
+  anyLeaf x t = treeLeaf (t .0) x (t .1)
+
+module _ (W : Type 0) (top : ℕ) (cut : List (IkeyClass × W) → ℕ) where
+  -- Of a leaf's new entries, those of the leaf that x leads to then: all of them, or, if there are more than there is room for, those of
+  -- the half in which x lies.
+  abbrev pub leafKept : ℕ → List (IkeyClass × W) → List (IkeyClass × W)
+  leafKept x es =
+      cond (leb (length es) top) es (cond (ltb x (lowOfEntries (drop (cut es) es))) (take (cut es) es) (drop (cut es) es))

@@ -67,12 +67,13 @@ module _ (w : ℕ) (bytes : List ℕ) {v : Verdict} (e : v ≡ judgedIn (wides w
         → next ≡ bytesOf (turnedBank (n + 1) i n (n + 1) (bankOf w bytes))
     first-free-bytes h m d = d ∙ moved-again w bytes l good i n (n + 1) (n + 1) h (omega arith) (omega arith)
 
-    pub inserted-so : {slot : ℕ} → n ≡ getD bytes 0 0 → i ≤ n → n < w → slot ≡ getD bytes w 0
-        → next ≡ (n + 1) ∷ turned i (w - 1) w (drop 1 bytes) → accepted (next ++ slot ∷ []) ≡ changed w bytes (insertFromBack i)
-    inserted-so s h m t d =
+    pub inserted-so : {slot resting : ℕ} → n ≡ getD bytes 0 0 → i ≤ n → n < w → slot ≡ getD bytes w 0 → resting ≡ w - (n + 1)
+        → next ≡ (n + 1) ∷ turned i (w - 1) w (drop 1 bytes)
+        → accepted (next ++ slot ∷ resting ∷ []) ≡ changed w bytes (insertFromBack i)
+    inserted-so s h m t r d =
         insert-so (wides w) bytes (width-right w bytes e f) (bytes-valid w bytes e f) i wide-bytes s h m
         (d ∙ moved-again w bytes l good i (w - 1) w (n + 1) (omega arith) (omega arith) (omega arith) ∙ rw (s, wide-bytes))
-        (back-bytes t) refl
+        (back-bytes t) r refl
 
     pub rotated-bytes : (j : ℕ) → i ≤ j → j ≤ w → next ≡ n ∷ turned i j w (drop 1 bytes)
         → next ≡ bytesOf (turnedBank n i j w (bankOf w bytes))

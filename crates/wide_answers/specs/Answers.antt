@@ -20,12 +20,12 @@ saidOutcome (O.Refused why) bank = refused why bank
 abbrev pub saidChanged : Changed → Answer
 saidChanged r = saidOutcome (r .outcome) (r .bank)
 
--- what an insertion hands out and the bank beside it
+-- what an insertion tells, the slot handed out and how many rest, and the bank beside it
 abbrev pub saidHanded : Handed → List ℕ → Answer
-saidHanded (H.Slot slot) bank = accepted (bank ++ slot ∷ [])
+saidHanded (H.Slot slot resting) bank = accepted (bank ++ slot ∷ resting ∷ [])
 saidHanded (H.Refused why) bank = refused why bank
 
--- an insertion: 0, the new bank and the slot handed out, or the refusal's number and the bank as given
+-- an insertion: 0, the new bank, the slot handed out and how many rest, or the refusal's number and the bank as given
 abbrev pub saidInserted : Inserted → Answer
 saidInserted r = saidHanded (r .handed) (r .bank)
 

@@ -13,13 +13,13 @@ pub struct Changed {
     pub bank: [u8; 25],
 }
 
-// The slot that an insertion hands out.
+// The slot that an insertion hands out, and how many rest.
 pub enum Handed {
-    Slot(usize),
+    Slot { slot: usize, resting: usize },
     Refused(Refusal),
 }
 
-// What an insertion hands out and the bank after it; refused, the bank as it was given.
+// What an insertion tells and the bank after it; refused, the bank as it was given.
 pub struct Inserted {
     pub handed: Handed,
     pub bank: [u8; 25],

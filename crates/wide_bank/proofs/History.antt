@@ -2,17 +2,18 @@
 -- nothing.
 use mathlib.Core.Path.{_≡_, ap, _∙_}
 use mathlib.Core.Bool.{true}
-use mathlib.Core.List.{List, _++_}
+use mathlib.Core.List.{List, [], _∷_, _++_}
 use Prim.Native.Nat.{ℕ, suc, _+_, _-_, _≤_}
 use native.Mathlib.Omega.{arith}
 use native.Mathlib.Numerals.{add-one}
-use lib.ListN.{length, take, drop, replicate, length-append, length-replicate}
+use lib.ListN.{length, getD, take, drop, replicate, length-append, length-replicate}
 use lib.Seq.{take-at, drop-at}
 use lib.Dec.{leb, leb→le}
 use borrow.Author.Tests.{le-leb}
 use Rattle.refusal.specs.Answer.{accepted}
 use Rattle.bank.specs.Lists.{eachOnce}
 use Rattle.bank.specs.Bank.{Bank, width, valid}
+use Rattle.bank.specs.Calls.{insertFromBack}
 use Rattle.bank.specs.History.{Call, asChange, Step, withoutBursts, withdrawn, ran, free}
 use Rattle.bank.proofs.Tests.{is-true, and-right, holds}
 use Rattle.bank.proofs.Kept.{Fits}
@@ -78,6 +79,11 @@ module _ (w : ℕ) where
   -- valid bytes pack their own bank
   pub own : (bytes : List ℕ) → Whole bytes → holders.Fine (wides w) bytes → bytesOf (bankOf w bytes) ≡ bytes
   own bytes l f = bytes-again w bytes l (good-bytes bytes l f)
+
+  -- how many rest after an accepted insertion from the back, and the size of the bank that it leaves, make up the width
+  pub rest-told : (i : ℕ) (bytes next : List ℕ) (slot resting : ℕ) → Whole bytes → Whole next
+      → changed w bytes (insertFromBack i) ≡ accepted (next ++ slot ∷ resting ∷ []) → getD next 0 0 + resting ≡ w
+  rest-told i bytes next slot resting l t e = holders.rest-told (wides w) w Whole encodes bytes l i next slot resting t e
 
   -- ---- demand 3, for any 25 bytes at any width
 

@@ -36,17 +36,16 @@ changed-one x y e = changed-by (x .outcome) (y .outcome) (x .bank) (y .bank) e
 insertedWith : Handed → List ℕ → Inserted
 insertedWith h bank = record { handed = h; bank = bank }
 
--- as many bytes before the slot that is handed out, so the same bytes, and the same slot
+-- as many bytes before what is told, so the same bytes, the same slot and as many that rest
 inserted-by : (x y : Handed) (a b : List ℕ) → saidHanded x a ≡ saidHanded y b → insertedWith x a ≡ insertedWith y b
-inserted-by (H.Slot s) (H.Slot t) a b e =
-    let v : a ++ s ∷ [] ≡ b ++ t ∷ [] = ap (λ (x : Answer). x .values) e in
-    let n : length b ≡ length a = omega (arith, ap length v, length-append a (s ∷ []), length-append b (t ∷ [])) in
-    ap₂ (λ (n : ℕ) (c : List ℕ). insertedWith (H.Slot n) c)
-    (ap (λ (x : List ℕ). getD x 0 0)
-    (sym (drop-at a (s ∷ []) (length a) refl) ∙ ap (drop (length a)) v ∙ drop-at b (t ∷ []) (length a) n))
-    (sym (take-at a (s ∷ []) (length a) refl) ∙ ap (take (length a)) v ∙ take-at b (t ∷ []) (length a) n)
-inserted-by (H.Slot s) (H.Refused r) a b e = absurd (differ r (number-of e))
-inserted-by (H.Refused r) (H.Slot t) a b e = absurd (differ r (sym (number-of e)))
+inserted-by (H.Slot s m) (H.Slot t n) a b e =
+    let v : a ++ s ∷ m ∷ [] ≡ b ++ t ∷ n ∷ [] = ap (λ (x : Answer). x .values) e in
+    let l : length b ≡ length a = omega (arith, ap length v, length-append a (s ∷ m ∷ []), length-append b (t ∷ n ∷ [])) in
+    ap₂ (λ (k : List ℕ) (c : List ℕ). insertedWith (H.Slot (getD k 0 0) (getD k 1 0)) c)
+    (sym (drop-at a (s ∷ m ∷ []) (length a) refl) ∙ ap (drop (length a)) v ∙ drop-at b (t ∷ n ∷ []) (length a) l)
+    (sym (take-at a (s ∷ m ∷ []) (length a) refl) ∙ ap (take (length a)) v ∙ take-at b (t ∷ n ∷ []) (length a) l)
+inserted-by (H.Slot s m) (H.Refused r) a b e = absurd (differ r (number-of e))
+inserted-by (H.Refused r) (H.Slot t n) a b e = absurd (differ r (sym (number-of e)))
 inserted-by (H.Refused r) (H.Refused q) a b e =
     ap₂ (λ (w : Refusal) (c : List ℕ). insertedWith (H.Refused w) c) (number-one r q (number-of e)) (ap (λ (x : Answer). x .values) e)
 

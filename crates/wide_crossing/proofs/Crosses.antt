@@ -26,14 +26,14 @@ module _ (outcome : Outcome) (new old : List ℕ) where
       Crossed (saidOutcome outcome new) r old old
   changed-refused {why} e n = rw e (refusal-crosses why new old n)
 
-module _ (handed : Handed) (new old : List ℕ) (before : ℕ) where
-  pub inserted-slot : {slot : ℕ} → handed ≡ H.Slot slot →
-      Crossed (saidHanded handed new) 0 (old ++ before ∷ []) (new ++ slot ∷ [])
+module _ (handed : Handed) (new old : List ℕ) (before rested : ℕ) where
+  pub inserted-slot : {slot left : ℕ} → handed ≡ H.Slot slot left →
+      Crossed (saidHanded handed new) 0 (old ++ before ∷ rested ∷ []) (new ++ slot ∷ left ∷ [])
   inserted-slot e = rw e (record { number = refl; lent = refl })
 
   pub inserted-refused : {why : Refusal} {r : ℕ} → handed ≡ H.Refused why → r ≡ numberOf why →
-      Crossed (saidHanded handed new) r (old ++ before ∷ []) (old ++ before ∷ [])
-  inserted-refused {why} e n = rw e (refusal-crosses why new (old ++ before ∷ []) n)
+      Crossed (saidHanded handed new) r (old ++ before ∷ rested ∷ []) (old ++ before ∷ rested ∷ [])
+  inserted-refused {why} e n = rw e (refusal-crosses why new (old ++ before ∷ rested ∷ []) n)
 
 module _ {answer : Told} {old : ℕ} where
   pub told-number : {new : ℕ} → answer ≡ T.Number new → Crossed (saidTold [] answer) 0 (old ∷ []) (new ∷ [])

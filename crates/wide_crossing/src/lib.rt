@@ -1,4 +1,4 @@
-// An answer of a wide bank taken apart for C: its number to return, its bank into the lent 25 bytes, its number into the lent one.
+// An answer of a wide bank taken apart for C: its number to return, its bank into the lent 25 bytes, its numbers into the lent ones.
 ghost use mathlib.Core.List.{[], _∷_, _++_};
 ghost use Rattle.wide_answers.specs.Answers.{saidChanged, saidInserted, saidTold};
 ghost use Rattle.crossing.specs.Crossing.{Crossed};
@@ -23,17 +23,28 @@ pub fn give_changed(answer: Changed, bank: &mut [u8; 25]) -> u64
     }
 }
 
-// Writes the bank after an insertion and the slot handed out, and returns 0; refused, writes nothing and returns the number.
-pub fn give_inserted(answer: Inserted, bank: &mut [u8; 25], slot: &mut usize) -> u64
+// Writes the bank after an insertion, the slot handed out and how many rest, and returns 0; refused, writes nothing and returns the
+// number.
+pub fn give_inserted(
+    answer: Inserted,
+    bank: &mut [u8; 25],
+    slot: &mut usize,
+    resting: &mut usize,
+) -> u64
     ensures { λ r. ⌜ Crossed (saidInserted answer) r
-        (now (bank .entry) ++ now (slot .entry) ∷ []) (now (bank .exit) ++ now (slot .exit) ∷ []) ⌝ }
+        (now (bank .entry) ++ now (slot .entry) ∷ now (resting .entry) ∷ [])
+        (now (bank .exit) ++ now (slot .exit) ∷ now (resting .exit) ∷ []) ⌝ }
 {
     let next = answer.bank;
     let handed = answer.handed;
     match handed {
-        Handed::Slot(taken) => {
+        Handed::Slot {
+            slot: taken,
+            resting: left,
+        } => {
             *bank = next;
             *slot = taken;
+            *resting = left;
             0
         }
         Handed::Refused(why) => refusal::number(why),

@@ -12,7 +12,7 @@ use wide_bytes::inside::byte;
 use wide_bytes::inside::judge;
 use wide_moves::inside;
 
-// The slot at the back is put to use at position i.
+// The slot at the back is put to use at position i; how many still rest is told beside it.
 pub fn insert_from_back(bank: [u8; 25], width: usize, i: usize) -> Inserted
     ensures { λ r. ⌜ saidInserted r ≡ changed width bank (insertFromBack i) ⌝ }
 {
@@ -36,9 +36,13 @@ pub fn insert_from_back(bank: [u8; 25], width: usize, i: usize) -> Inserted
         };
     }
     let slot = byte(bank, width);
-    let next = inside::moved(bank, i, width - 1, width, size + 1);
+    let more = size + 1;
+    let next = inside::moved(bank, i, width - 1, width, more);
     Inserted {
-        handed: Handed::Slot(slot),
+        handed: Handed::Slot {
+            slot,
+            resting: width - more,
+        },
         bank: next,
     }
 }

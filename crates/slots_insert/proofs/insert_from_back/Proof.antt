@@ -16,6 +16,8 @@ insert-from-back-spec =
     (λ c. search inserts)
     (λ c κs. search needs)
     (λ c. search inserts)
+    (λ c. search needs)
     (λ c κs. search inserts)
     (λ c κs. search needs)
+    (λ c. search needs)
     (λ c. search inserts))

@@ -20,4 +20,5 @@ insert-from-back-spec =
     (λ c. search needs)
     (λ c. search needs)
     (λ c κs. search asks)
+    (λ c. search needs)
     (λ c. search calls))

@@ -1,6 +1,6 @@
 -- `firmware::card::cherchivola_load` meets its contract: it crosses as what the call did. Assumes nothing.
 use borrow.Author.Needs.{needs}
-use Rattle.card_crossing.proofs.Crosses.{both-crosses}
+use Rattle.index_crossing.proofs.Crosses.{both-crosses}
 use Rattle.firmware.proofs.card.cherchivola_load.Statement.{statement}
 use Rattle.firmware.proofs.card.cherchivola_load.Tie as tie
 

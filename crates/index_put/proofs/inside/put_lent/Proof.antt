@@ -44,7 +44,8 @@ returns-5 c =
     let k = g .before in
     lent-new _ _ _ _ _ (k .before .before .before .before .if1 .left) _ (k .seek .ensures .0) (g .match .keys2)
     (f .before .has-cell .ensures) (not-false _ (f .if2 .left)) (l .before .lacking .ensures) (l .if3 .left)
-    (c .before .before .before .before .before .before .put-counted .ensures)
+    (c .before .before .before .before .before .before .put-counted .ensures .0)
+    (c .before .before .before .before .before .before .put-counted .ensures .1)
 
 pub put-lent-spec : {M : Type 1} → statement M
 put-lent-spec =

@@ -1,6 +1,6 @@
 -- `replay_slots::line::agrees` meets its contract: a law for each return. Assumes nothing.
 use borrow.Author.Needs.{needs}
-use Rattle.replay_slots.proofs.Agreement.{number-differs, first-differs, second-decides}
+use Rattle.replay_slots.proofs.Agreement.{number-differs, first-differs, second-differs, third-decides}
 use Rattle.replay_slots.proofs.line.agrees.Statement.{statement}
 use Rattle.replay_slots.proofs.line.agrees.Tie as tie
 
@@ -14,4 +14,6 @@ agrees-spec =
     (λ c κs. search needs)
     (λ c. search first-differs)
     (λ c κs. search needs)
-    (λ c. search second-decides))
+    (λ c. search second-differs)
+    (λ c κs. search needs)
+    (λ c. search third-decides))

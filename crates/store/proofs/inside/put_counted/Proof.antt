@@ -15,4 +15,4 @@ put-counted-spec =
     (λ c. search needs)
     (λ c. search needs)
     (λ c. search needs)
-    (λ c. search put-count))
+    (λ c. (search put-count, search needs)))

@@ -1,6 +1,6 @@
 -- `store::inside::put_new` meets its contract. Assumes nothing.
 use borrow.Author.Needs.{needs}
-use Rattle.store.proofs.Writing.{put-all}
+use Rattle.store.proofs.Writing.{put-all, rests-passed}
 use Rattle.store.proofs.inside.put_new.Statement.{statement}
 use Rattle.store.proofs.inside.put_new.Tie as tie
 
@@ -14,4 +14,4 @@ put-new-spec =
     (λ c. search needs)
     (λ c. search needs)
     (λ c. search needs)
-    (λ c. search put-all))
+    (λ c. (search put-all, search rests-passed)))

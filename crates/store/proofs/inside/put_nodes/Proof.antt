@@ -3,6 +3,7 @@ use native.Mathlib.Omega.{arith}
 use borrow.Author.Needs.{needs}
 use Rattle.seek.proofs.Seeks.{conflict-within, missing-within}
 use Rattle.store.proofs.Writing.{lent-kept, lent-some, lent-few, put-stored-none, put-conflict, put-missing}
+use Rattle.store.proofs.Writing.{rests-stored, rests-conflict, rests-missing}
 use Rattle.store.proofs.inside.put_nodes.Statement.{statement}
 use Rattle.store.proofs.inside.put_nodes.Tie as tie
 
@@ -42,8 +43,8 @@ put-nodes-spec =
     (λ c. search needs)
     entry-for-requires
     (λ c κs. search needs)
-    (λ c. search put-stored-none)
+    (λ c. (search put-stored-none, search rests-stored))
     (λ c. search needs)
-    (λ c. search put-conflict)
+    (λ c. (search put-conflict, search rests-conflict))
     (λ c. search needs)
-    (λ c. search put-missing))
+    (λ c. (search put-missing, search rests-missing)))
