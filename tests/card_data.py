@@ -26,8 +26,8 @@ def entry(line):
 with open(os.path.join(CRATES, "card", "stdout")) as listing:
     write("card", "labels.card", image_of([entry(line) for line in list(listing)[1:]]))
 
-# A good image, but: a byte too short, a bit changed, its keys in the wrong order; and one of nine pairs of keys that differ in the last of 256
-# bytes, more than 255 nodes hold.
+# A good image, but: a byte too short, a bit changed, its keys in the wrong order; and one of nine pairs of keys that differ in the last of
+# 256 bytes, more than 255 nodes hold.
 two = [(b"a", 7), (b"fox", 8)]
 pairs = [(bytes([first]) * 255 + last, 1) for first in range(9) for last in (b"a", b"b")]
 good = image_of(two)

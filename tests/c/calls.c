@@ -28,11 +28,9 @@ enum { MOST_NUMBERS = 48, MOST_KEY = CARD, LINE = 2 * CARD + 4096 };
 
 /* One line, taken apart: its numbers, and its keys, which lie at the end of a guarded page. */
 static uint64_t number[MOST_NUMBERS];
-static int numbers;
-static uint8_t *key[2];
+static int numbers, keys;
+static uint8_t *key[2], *key_end[2];
 static size_t key_length[2];
-static int keys;
-static uint8_t *key_end[2];
 
 /* Lent numbers, each between two that must stay. The last three are for the fields of frame labels. */
 static uint64_t lent_word[7];
@@ -89,7 +87,6 @@ static void returned(uint64_t what) { printf("%" PRIx64, what); }
 
 /* Prints a lent number as it is now. */
 static void tell_word(int place) { printf(" %" PRIx64, lent_word[2 * place + 1]); }
-
 static void tell_size(int place) { printf(" %zx", lent_size[2 * place + 1]); }
 
 /* Writes the numbers beside those that are lent for fields. */
@@ -107,8 +104,7 @@ static int fields_alone(void) {
 static void end_line(void) {
     for (int k = 0; k < 7; k += 2) {
         if (lent_word[k] != BESIDE || lent_size[k] != BESIDE) printf(" beside");
-        lent_word[k] = BESIDE;
-        lent_size[k] = BESIDE;
+        lent_word[k] = lent_size[k] = BESIDE;
     }
     if (!fields_alone()) printf(" beside");
     guard_fields();
@@ -434,10 +430,11 @@ static const struct named calls[] = {
     CALL(swap_free_slots), CALL(insert_from_back), CALL(insert_first_free), CALL(remove), CALL(remove_to_back), CALL(remove_slot),
     CALL(exchange), CALL(rotate), CALL(wide_empty), CALL(wide_make_sorted), CALL(wide_from_bytes), CALL(wide_size), CALL(wide_get),
     CALL(wide_back), CALL(wide_insert_from_back), CALL(wide_insert_first_free), CALL(wide_remove), CALL(wide_remove_to_back),
-    CALL(wide_remove_slot), CALL(wide_exchange), CALL(wide_rotate), CALL(read_ikey), CALL(compare_keys), CALL(key_new), CALL(key_shift), CALL(key_shift_by), CALL(key_unshift), CALL(key_unshift_all),
-    CALL(key_compare), CALL(key_compare_suffix), CALL(find_insert_position), CALL(compare_key), CALL(child_for),
-    CALL(insert_key_and_child), CALL(lengths), CALL(clear), CALL(put), CALL(remove_key), CALL(find), CALL(kth), CALL(count), CALL(audit),
-    CALL(save), CALL(load), CALL(label_build_first), CALL(label_build_second), CALL(label_read), CALL(label_read_first)};
+    CALL(wide_remove_slot), CALL(wide_exchange), CALL(wide_rotate), CALL(read_ikey), CALL(compare_keys), CALL(key_new), CALL(key_shift),
+    CALL(key_shift_by), CALL(key_unshift), CALL(key_unshift_all), CALL(key_compare), CALL(key_compare_suffix),
+    CALL(find_insert_position), CALL(compare_key), CALL(child_for), CALL(insert_key_and_child), CALL(lengths), CALL(clear), CALL(put),
+    CALL(remove_key), CALL(find), CALL(kth), CALL(count), CALL(audit), CALL(save), CALL(load), CALL(label_build_first),
+    CALL(label_build_second), CALL(label_read), CALL(label_read_first)};
 
 /* What a digit stands for. */
 static int digit(char hex) {
@@ -459,12 +456,9 @@ static void take_key(const char *hex) {
 static void take_words(void) {
     numbers = keys = 0;
     for (char *text = strtok(NULL, " \n"); text != NULL; text = strtok(NULL, " \n")) {
-        if (text[0] == 'x') {
-            take_key(text + 1);
-        } else {
-            if (numbers == MOST_NUMBERS) fail("too many numbers", text);
-            number[numbers++] = strtoull(text, NULL, 16);
-        }
+        if (text[0] == 'x') take_key(text + 1);
+        else if (numbers == MOST_NUMBERS) fail("too many numbers", text);
+        else number[numbers++] = strtoull(text, NULL, 16);
     }
 }
 

@@ -33,13 +33,16 @@ module _ (nodes cells bytes : List ℕ) {r : Measured} (e : saidMeasured r ≡ m
       let l : length n1 ≡ length nodes = ap length (en ∙ zero-all nodes) ∙ length-replicate (length nodes) 0 in
       omega (arith, w .n-low, w .nodes-whole)
 
-  pub clear-refused : {why : Refusal} → r ≡ M.Refused why → did (refused why []) (memory nodes cells bytes) ≡ cleared (memory nodes cells bytes)
+  pub clear-refused : {why : Refusal} → r ≡ M.Refused why
+      → did (refused why []) (memory nodes cells bytes) ≡ cleared (memory nodes cells bytes)
   unfolding measured cleared
   clear-refused {why} f = by (rightLengths (length nodes) (length cells) (length bytes)) (ap saidMeasured (sym f) ∙ e)
     where
-      by : (b : Bool) → refused why [] ≡ cond b (accepted (nodeCount (length nodes) ∷ cellCount (length cells) ∷ [])) (record { number = 10; values = [] })
+      by : (b : Bool) → refused why [] ≡ cond b (accepted (nodeCount (length nodes) ∷ cellCount (length cells) ∷ []))
+          (record { number = 10; values = [] })
           → did (refused why []) (memory nodes cells bytes)
-          ≡ cond b (did (accepted []) (emptied (nodeCount (length nodes)) (cellCount (length cells)))) (did (record { number = 10; values = [] }) (memory nodes cells bytes))
+          ≡ cond b (did (accepted []) (emptied (nodeCount (length nodes)) (cellCount (length cells))))
+          (did (record { number = 10; values = [] }) (memory nodes cells bytes))
       by true q = absurd (let z : numberOf why ≡ 0 = ap (λ (a : Answer). a .number) q in omega (arith, number-pos why))
       by false q = ap (λ (a : Answer). did a (memory nodes cells bytes)) q
 
@@ -50,7 +53,14 @@ module _ (nodes cells bytes : List ℕ) {r : Measured} (e : saidMeasured r ≡ m
   clear-done f en ec eb el =
       let t = fits _ _ f in
       let w = right-means _ _ _ t in
-      rw (t, el, en ∙ zero-all nodes ∙ ap zeros (w .nodes-whole), ec ∙ zero-all cells ∙ ap zeros (w .cells-whole), eb ∙ zero-all bytes ∙ ap zeros (w .bytes-whole))
+      rw (
+        t,
+        el,
+        en ∙ zero-all nodes ∙ ap zeros (w .nodes-whole),
+        ec ∙ zero-all cells ∙ ap zeros (w .cells-whole),
+        eb ∙ zero-all bytes
+            ∙ ap zeros (w .bytes-whole),
+      )
 
 -- ---- what `clear` leaves
 

@@ -28,7 +28,8 @@ pub record Right (nodes cells bytes n c : ℕ) : Type 0 where
   pub cells-whole : cells ≡ c * 2
   pub bytes-whole : bytes ≡ c * 256
 
-pub right-means : (nodes cells bytes : ℕ) → rightLengths nodes cells bytes ≡ true → Right nodes cells bytes (nodeCount nodes) (cellCount cells)
+pub right-means : (nodes cells bytes : ℕ) → rightLengths nodes cells bytes ≡ true
+    → Right nodes cells bytes (nodeCount nodes) (cellCount cells)
 unfolding rightLengths
 right-means nodes cells bytes e =
     let (e4, b) = and-true _ _ e in
@@ -53,7 +54,8 @@ counts-follow {nodes} {cells} {bytes} {n} {c} r =
     let e : nodes - 2 ≡ n * 47 = omega (arith, r .nodes-whole) in
     (ap (λ (x : ℕ). x / 47) e ∙ mul-div-cancel n (omega arith), ap (λ (x : ℕ). x / 2) (r .cells-whole) ∙ mul-div-cancel c (omega arith))
 
-pub right-counts : (nodes cells bytes : ℕ) → Right nodes cells bytes (nodeCount nodes) (cellCount cells) → rightLengths nodes cells bytes ≡ true
+pub right-counts : (nodes cells bytes : ℕ) → Right nodes cells bytes (nodeCount nodes) (cellCount cells)
+    → rightLengths nodes cells bytes ≡ true
 unfolding rightLengths
 right-counts nodes cells bytes r =
     rw (

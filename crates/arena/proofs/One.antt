@@ -21,7 +21,8 @@ cleared-one (C.Refused r) C.Done e = absurd (differ r (sym (number-of e)))
 cleared-one (C.Refused r) (C.Refused q) e = ap C.Refused (number-one r q (number-of e))
 
 -- any two outcomes that the contract of `clear` admits are one: the answer, and all three slices
-pub clear-one : (given : Memory) (x y : Cleared) (after other : Memory) → did (saidCleared x) after ≡ cleared given → did (saidCleared y) other ≡ cleared given
+pub clear-one : (given : Memory) (x y : Cleared) (after other : Memory) → did (saidCleared x) after ≡ cleared given
+    → did (saidCleared y) other ≡ cleared given
     → (x ≡ y) × (after ≡ other)
 clear-one given x y after other e f =
     let q : did (saidCleared x) after ≡ did (saidCleared y) other = e ∙ sym f in

@@ -15,7 +15,8 @@ unfolding cleared
 clear-says m = by (rightLengths (length (m .nodes)) (length (m .cells)) (length (m .bytes))) _
   where
     by : (right : Bool) (after : Memory)
-        → cond right (did (accepted []) after) (did (record { number = 10; values = [] }) m) .answer ≡ answered ((10 unless right) ∷ []) [] []
+        → cond right (did (accepted []) after) (did (record { number = 10; values = [] }) m) .answer ≡ answered ((10 unless right) ∷ []) []
+        []
     by true after = refl
     by false after = refl
 

@@ -13,7 +13,8 @@ use Rattle.order.specs.Bytes.{bytewise}
 use Rattle.order.specs.Map as order
 use Rattle.order.specs.Map.{Map, All, a[], _a∷_, lookup}
 use Rattle.arena.specs.Memory.{Memory}
-use Rattle.as_map.specs.Calls.{Call, clear, put, find, remove, kth, count, OfBytes, Heard, done, frame, entry, counted, refusal, refused}
+use Rattle.as_map.specs.Calls.{Call, clear, put, find, remove, kth, count, OfBytes, Heard, done, frame, entry, counted, refusal}
+use Rattle.as_map.specs.Calls.{refused}
 use Rattle.as_map.specs.Calls.{heard, left, leftAfter, answers, Room, cellFree, nodesEnough, nodesLacking, roomFor, rooms}
 use Rattle.as_map.specs.Map.{whether, mapSays, mapLeft, mapAnswers, mapAfter}
 use Rattle.as_map.proofs.Says.{says}
@@ -33,13 +34,15 @@ one-left m xs (v, t, bytes, e) call b =
 
 -- ---- one call after the other
 
-pub all-heard : (m : Memory) (xs : Map) → Lists m xs → {calls : List Call} → All OfBytes calls → answers m calls ≡ mapAnswers (rooms m calls) xs calls
+pub all-heard : (m : Memory) (xs : Map) → Lists m xs → {calls : List Call} → All OfBytes calls
+    → answers m calls ≡ mapAnswers (rooms m calls) xs calls
 all-heard m xs l a[] = refl
 all-heard m xs l (_a∷_ {x = call} b rest) =
     ap₂ (λ (h : Heard) (hs : List Heard). h ∷ hs) (one-heard m xs l call b)
     (all-heard (left m call) (mapLeft (roomFor m call) xs call) (one-left m xs l call b) rest)
 
-pub all-left : (m : Memory) (xs : Map) → Lists m xs → {calls : List Call} → All OfBytes calls → Lists (leftAfter m calls) (mapAfter (rooms m calls) xs calls)
+pub all-left : (m : Memory) (xs : Map) → Lists m xs → {calls : List Call} → All OfBytes calls
+    → Lists (leftAfter m calls) (mapAfter (rooms m calls) xs calls)
 all-left m xs l a[] = l
 all-left m xs l (_a∷_ {x = call} b rest) =
     all-left (left m call) (mapLeft (roomFor m call) xs call) (one-left m xs l call b) rest

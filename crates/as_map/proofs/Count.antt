@@ -28,7 +28,8 @@ map-tallied room xs clear puts removals e = refl
 map-tallied room xs (put key x) puts removals e =
     go (leb (length key) 256) (lookup bytewise key xs) (cellFree room) (nodesEnough room) (nodesLacking room) (length-insert key x xs)
   where
-    go : (short : Bool) (found : Option ℕ) (cell nodes : Bool) (n : ℕ) → (found ≡ none → length (insert bytewise key x xs) ≡ suc (length xs))
+    go : (short : Bool) (found : Option ℕ) (cell nodes : Bool) (n : ℕ)
+        → (found ≡ none → length (insert bytewise key x xs) ≡ suc (length xs))
         → length (cond short (whether (cond (cell && nodes) (insert bytewise key x xs) xs) (λ y. xs) found) xs) + removals
         ≡ cond (wasAccepted
         (cond short (whether (cond cell (cond nodes done (refusal 14 (n ∷ []))) (refused 13)) (λ y. refused 11) found) (refused 7)))
@@ -55,7 +56,8 @@ map-tallied room xs count puts removals e = e
 
 -- ---- one call after the other
 
-all-tallied : (m : Memory) (xs : Map) → Lists m xs → {calls : List Call} → All OfBytes calls → (puts removals : ℕ) → length xs + removals ≡ puts
+all-tallied : (m : Memory) (xs : Map) → Lists m xs → {calls : List Call} → All OfBytes calls → (puts removals : ℕ)
+    → length xs + removals ≡ puts
     → length (mapAfter (rooms m calls) xs calls) + removalsSince removals calls (answers m calls) ≡ putsSince puts calls (answers m calls)
 all-tallied m xs l a[] puts removals e = e
 all-tallied m xs l (_a∷_ {x = call} b rest) puts removals e =
@@ -66,7 +68,8 @@ all-tallied m xs l (_a∷_ {x = call} b rest) puts removals e =
 
 -- ---- after a clear
 
-module _ (n c : ℕ) (n-low : 1 ≤ n) (n-high : n ≤ 255) (c-low : 1 ≤ c) (c-high : c ≤ 255) {calls : List Call} (of-bytes : All OfBytes calls) where
+module _ (n c : ℕ) (n-low : 1 ≤ n) (n-high : n ≤ 255) (c-low : 1 ≤ c) (c-high : c ≤ 255) {calls : List Call}
+    (of-bytes : All OfBytes calls) where
   empty : Lists (emptied n c) []
   empty = cleared-lists n c n-low n-high c-low c-high
 

@@ -19,14 +19,16 @@ use Rattle.model.specs.Calls.{place, stored, frameOf, inKeyOrder, entryOf, find
 use Rattle.model.specs.Calls.{hasCell, hasNodes, lacking, withEntry, restsIn}
 use Rattle.views.proofs.Listed.{keyAndFrame, cells-listed}
 use Rattle.places.proofs.Found.{asList, isSome, stored-lookup, frame-lookup}
-use Rattle.as_map.specs.Calls.{Call, clear, put, find, remove, kth, count, OfBytes, Heard, done, frame, entry, counted, refusal, refused}
+use Rattle.as_map.specs.Calls.{Call, clear, put, find, remove, kth, count, OfBytes, Heard, done, frame, entry, counted, refusal}
+use Rattle.as_map.specs.Calls.{refused}
 use Rattle.as_map.specs.Calls.{heardOf, heard, keyTold, roomFor}
 use Rattle.as_map.specs.Map.{whether, mapSays}
 
 -- ---- the rules of each call, once memory is a tree: `short` for a key of at most 256 bytes, `found` for what the map has
 
 find-ruled : (short : Bool) (found : Option ℕ)
-    → heardOf (answered ((7 unless short) ∷ (10 unless true) ∷ (12 unless isSome found) ∷ []) (asList found) []) (λ values. frame (getD values 0 0))
+    → heardOf (answered ((7 unless short) ∷ (10 unless true) ∷ (12 unless isSome found) ∷ []) (asList found) [])
+    (λ values. frame (getD values 0 0))
     ≡ cond short (whether (refused 12) frame found) (refused 7)
 find-ruled true none = refl
 find-ruled true (some x) = refl
@@ -83,7 +85,8 @@ module _ (m : Memory) (v : Layers) (t : IsTree m v) (bytes : Bytes (m .bytes)) w
     find-says : heard m (find key) ≡ mapSays (roomFor m (find key)) (listing m v) (find key)
     unfolding findSaid
     find-says =
-        rw (accepted, stored-lookup m v (t .forest) bytes key b, frame-lookup m v (t .forest) bytes key b) (find-ruled (leb (length key) 256) found)
+        rw (accepted, stored-lookup m v (t .forest) bytes key b, frame-lookup m v (t .forest) bytes key b)
+        (find-ruled (leb (length key) 256) found)
 
     remove-says : heard m (remove key) ≡ mapSays (roomFor m (remove key)) (listing m v) (remove key)
     unfolding removed
@@ -101,7 +104,8 @@ module _ (m : Memory) (v : Layers) (t : IsTree m v) (bytes : Bytes (m .bytes)) w
       rw accepted
       (kth-told (ltb k (length (inKeyOrder m))) (entryOf m (getD (inKeyOrder m) k 0)) (λ values. entry (keyTold m values) (getD values 2 0))
       ∙ kth-ruled (keyAndFrame (m .cells) (m .bytes)) k (inKeyOrder m)
-      ∙ ap (λ (xs : order.Map). whether (refused 12) (λ (e : List ℕ × ℕ). entry (e .0) (e .1)) (order.kth k xs)) (cells-listed m v (t .forest)))
+      ∙ ap (λ (xs : order.Map). whether (refused 12) (λ (e : List ℕ × ℕ). entry (e .0) (e .1)) (order.kth k xs))
+      (cells-listed m v (t .forest)))
 
   count-says : heard m count ≡ mapSays (roomFor m count) (listing m v) count
   unfolding countSaid
@@ -123,7 +127,8 @@ pub stored-means : (m : Memory) (v : Layers) → IsTree m v → Bytes (m .bytes)
     → (stored m key ≡ true → (x : ℕ) × (order.lookup bytewise key (listing m v) ≡ some x) × (frameOf m (place m key) ≡ x ∷ []))
     × (stored m key ≡ false → order.lookup bytewise key (listing m v) ≡ none)
 stored-means m v t bytes key b =
-    go (stored m key) (order.lookup bytewise key (listing m v)) (stored-lookup m v (t .forest) bytes key b) (frame-lookup m v (t .forest) bytes key b)
+    go (stored m key) (order.lookup bytewise key (listing m v)) (stored-lookup m v (t .forest) bytes key b)
+    (frame-lookup m v (t .forest) bytes key b)
   where
     go : (there : Bool) (found : Option ℕ) → there ≡ isSome found → frameOf m (place m key) ≡ asList found
         → (there ≡ true → (x : ℕ) × (found ≡ some x) × (frameOf m (place m key) ≡ x ∷ [])) × (there ≡ false → found ≡ none)

@@ -29,7 +29,8 @@ module _ (nodes cells bytes : List ℕ) {r : Measured} (e : saidMeasured r ≡ m
   unfolding measured
   wrong {why} f = by (rightLengths (length nodes) (length cells) (length bytes)) (ap saidMeasured (sym f) ∙ e)
     where
-      by : (b : Bool) → refused why [] ≡ cond b (accepted (nodeCount (length nodes) ∷ cellCount (length cells) ∷ [])) (record { number = 10; values = [] })
+      by : (b : Bool) → refused why [] ≡ cond b (accepted (nodeCount (length nodes) ∷ cellCount (length cells) ∷ []))
+          (record { number = 10; values = [] })
           → b ≡ false
       by true q = absurd (let z : numberOf why ≡ 0 = ap (λ (a : Answer). a .number) q in omega (arith, number-pos why))
       by false q = refl
@@ -66,7 +67,15 @@ module _ (nodes cells bytes : List ℕ) {r : Measured} (e : saidMeasured r ≡ m
     pub lent-all : (seen : Seen) → length seen ≡ 510 → LentAll nodes cells bytes seen n c
     lent-all seen l =
         let w = fit in
-        record { n-few = w .n-high; c-few = w .c-high; nodes-all = w .nodes-whole; cells-all = w .cells-whole; bytes-all = w .bytes-whole; room = l }
+        record {
+          n-few = w .n-high;
+          c-few = w .c-high;
+          nodes-all = w .nodes-whole;
+          cells-all = w .cells-whole;
+          bytes-all =
+              w .bytes-whole;
+          room = l;
+        }
 
     module _ (w : Bool) (s : Seen) (g : told w s ≡ walkLayer 31 (memory nodes cells bytes) [] (getD nodes 0 0) (zeros 510)) where
       walked : isTree (memory nodes cells bytes) ≡ walkedWell (memory nodes cells bytes) (told w s)

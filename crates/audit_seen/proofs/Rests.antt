@@ -83,7 +83,21 @@ module _ (cells bytes : List ℕ) (seen : Seen) (k : ℕ) where
     pub cell-not : r ≡ false → cellLeft cells bytes seen k ≡ false
     cell-not t = cell-is ∙ t
 
-pub ruleset lefts = (needs, not-true, not-false, below-start, below-next, below-end, below-not, node-seen, nodes-next, node-not, cell-seen, cells-next, cell-not)
+pub ruleset lefts = (
+  needs,
+  not-true,
+  not-false,
+  below-start,
+  below-next,
+  below-end,
+  below-not,
+  node-seen,
+  nodes-next,
+  node-not,
+  cell-seen,
+  cells-next,
+  cell-not,
+)
 
 -- ---- the cells, and how many of them were seen
 
@@ -92,11 +106,13 @@ module _ (seen : Seen) where
   unfolding howMany
   count-start = refl
 
-  pub count-seen : (k : ℕ) {many : ℕ} → getD seen (2 * k + 1) 0 ≡ 1 → many ≡ howMany k (cellSeen seen) → many + 1 ≡ howMany (k + 1) (cellSeen seen)
+  pub count-seen : (k : ℕ) {many : ℕ} → getD seen (2 * k + 1) 0 ≡ 1 → many ≡ howMany k (cellSeen seen)
+      → many + 1 ≡ howMany (k + 1) (cellSeen seen)
   unfolding howMany
   count-seen k {many} e h = rw (add-one k, add-one many, eq-eqb _ _ e) (ap suc h)
 
-  pub count-unseen : (k : ℕ) {many : ℕ} → (getD seen (2 * k + 1) 0 ≡ 1 → ⊥) → many ≡ howMany k (cellSeen seen) → many ≡ howMany (k + 1) (cellSeen seen)
+  pub count-unseen : (k : ℕ) {many : ℕ} → (getD seen (2 * k + 1) 0 ≡ 1 → ⊥) → many ≡ howMany k (cellSeen seen)
+      → many ≡ howMany (k + 1) (cellSeen seen)
   unfolding howMany
   count-unseen k e h = rw (add-one k, ne-eqb _ _ e) h
 

@@ -73,10 +73,12 @@ module _ (number k : ℕ) (p f g q : List ℕ) (bf : Bytes f) (bg : Bytes g) (lp
   from-number : littleEndian 4 f ≡ littleEndian 4 g → f ≡ g
   from-number = little-same 4 bf bg lf lg
 
-  both-f : (littleEndian 4 (drop 504 (p ++ (f ++ q))) ≡ checkOf number (p ++ (f ++ q)) .a) × (littleEndian 4 (drop 508 (p ++ (f ++ q))) ≡ checkOf number (p ++ (f ++ q)) .b)
+  both-f : (littleEndian 4 (drop 504 (p ++ (f ++ q))) ≡ checkOf number (p ++ (f ++ q)) .a)
+      × (littleEndian 4 (drop 508 (p ++ (f ++ q))) ≡ checkOf number (p ++ (f ++ q)) .b)
   both-f = good-both number (p ++ (f ++ q)) hf
 
-  both-g : (littleEndian 4 (drop 504 (p ++ (g ++ q))) ≡ checkOf number (p ++ (g ++ q)) .a) × (littleEndian 4 (drop 508 (p ++ (g ++ q))) ≡ checkOf number (p ++ (g ++ q)) .b)
+  both-g : (littleEndian 4 (drop 504 (p ++ (g ++ q))) ≡ checkOf number (p ++ (g ++ q)) .a)
+      × (littleEndian 4 (drop 508 (p ++ (g ++ q))) ≡ checkOf number (p ++ (g ++ q)) .b)
   both-g = good-both number (p ++ (g ++ q)) hg
 
   -- one of the 126 words: the sum tells

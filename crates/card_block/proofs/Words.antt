@@ -34,7 +34,8 @@ four-bytes (a ∷ b ∷ c ∷ d ∷ l) = omega arith
 pub word-is : (l : List ℕ) (at : ℕ) {a b c d : ℕ} → a ≡ getD l at 0 → b ≡ getD l (at + 1) 0 → c ≡ getD l (at + 2) 0 → d ≡ getD l (at + 3) 0
     → a + b * 0x100 + c * 0x10000 + d * 0x1000000 ≡ littleEndian 4 (drop at l)
 word-is l at p q r s =
-    rw (p, q, r, s) (rw (getD-drop at l 0 0, add-zero at, getD-drop at l 1 0, getD-drop at l 2 0, getD-drop at l 3 0) at (four-bytes (drop at l)))
+    rw (p, q, r, s) (rw (getD-drop at l 0 0, add-zero at, getD-drop at l 1 0, getD-drop at l 2 0, getD-drop at l 3 0) at
+    (four-bytes (drop at l)))
 
 -- a number of n bytes is below 256^n
 pub little-below : (n : ℕ) {l : List ℕ} → Bytes l → littleEndian n l < 256 ^ n

@@ -41,7 +41,8 @@ comes-fits n place last h k =
 counts-fits : (n place : ℕ) → place + 68400 ≤ 70000 → Fits (counts n place)
 unfolding counts
 counts-fits n place h =
-    either Fits (leb n 255) (λ e. comes-fits n (place + 4) 0 (omega (arith, leb-true n 255 e)) (omega arith)) (λ e. stop-fits place (omega arith))
+    either Fits (leb n 255) (λ e. comes-fits n (place + 4) 0 (omega (arith, leb-true n 255 e)) (omega arith))
+    (λ e. stop-fits place (omega arith))
 
 fills-fits : (byte place zeros last : ℕ) → place + 1 + zeros ≤ 70000 → last ≤ 257 → Fits (fills byte place zeros last)
 unfolding fills
@@ -49,7 +50,8 @@ fills-fits byte place zeros last h k =
     either Fits (eqb byte 0)
     (λ e.
     either Fits (eqb zeros 0) (λ f. stop-fits place (omega arith))
-    (λ f. let z : zeros ≡ 0 → ⊥ = eqb-false zeros 0 f in record { inside = omega arith; short = omega arith; named = k; room = omega arith }))
+    (λ f. let z : zeros ≡ 0 → ⊥ = eqb-false zeros 0 f in
+    record { inside = omega arith; short = omega arith; named = k; room = omega arith }))
     (λ e. stop-fits place (omega arith))
 
 names-sound : (field key : List ℕ) (left last place len : ℕ) → length field ≡ 256 → length key ≡ 256 → len ≤ 256
@@ -59,8 +61,11 @@ unfolding names
 names-sound field key left last place len h k l m =
     either Sound (aboveLast key last (take len field))
     (λ e.
-    let p : length (part field 0 len) ≡ len = part-length field 0 len (omega arith) in
-    (put-length key 0 (part field 0 len) (omega arith) ∙ k, record { inside = omega arith; short = omega arith; named = omega arith; room = omega arith }))
+    let p : length (part field 0 len) ≡ len = part-length field 0 len (omega arith) in (
+      put-length key 0 (part field 0 len) (omega arith)
+          ∙ k,
+      record { inside = omega arith; short = omega arith; named = omega arith; room = omega arith },
+    ))
     (λ e. (k, stop-fits place (omega arith)))
 
 measures-sound : (field key : List ℕ) (left last place len : ℕ) → length field ≡ 256 → length key ≡ 256 → last ≤ 257
@@ -85,11 +90,14 @@ unfolding wholeOf
 whole-sound field key s Counting e h k f = (k, counts-fits (littleEndian 4 field) (s .place) (omega (arith, room-at s Counting e f)))
 whole-sound field key s Measuring e h k f =
     measures-sound field key (s .left) (s .last) (s .place) (littleEndian 2 field) h k (f .named) (omega (arith, room-at s Measuring e f))
-whole-sound field key s Naming e h k f = names-sound field key (s .left) (s .last) (s .place) (s .need) h k (f .short) (omega (arith, room-at s Naming e f))
+whole-sound field key s Naming e h k f = names-sound field key (s .left) (s .last) (s .place) (s .need) h k (f .short)
+    (omega (arith, room-at s Naming e f))
 whole-sound field key s Framing e h k f =
-    let c : Fits (comes (s .left) (s .place + 8) (s .last)) = comes-fits (s .left) (s .place + 8) (s .last) (omega (arith, room-at s Framing e f)) (f .named) in
+    let c : Fits (comes (s .left) (s .place + 8) (s .last)) =
+    comes-fits (s .left) (s .place + 8) (s .last) (omega (arith, room-at s Framing e f)) (f .named) in
     (k, record { inside = c .inside; short = c .short; named = c .named; room = c .room })
-whole-sound field key s Filling e h k f = (k, fills-fits (getD field 0 0) (s .place) (s .zeros) (s .last) (omega (arith, room-at s Filling e f)) (f .named))
+whole-sound field key s Filling e h k f =
+    (k, fills-fits (getD field 0 0) (s .place) (s .zeros) (s .last) (omega (arith, room-at s Filling e f)) (f .named))
 whole-sound field key s Stopped e h k f = (k, f)
 
 -- lent lengths and numbers, together
@@ -104,7 +112,17 @@ step-safe t byte (h, k, f) =
     either Safe (eqb (s .need) 0) (λ e. (h, k, f))
     (λ e.
     either Safe (ltb (s .held + 1) (s .need))
-    (λ m. (l, k, record { inside = omega (arith, ltb-true (s .held + 1) (s .need) m, f .short); short = f .short; named = f .named; room = f .room }))
+    (λ m. (
+      l,
+      k,
+      record {
+        inside = omega (arith, ltb-true (s .held + 1) (s .need) m, f .short);
+        short = f .short;
+        named = f .named;
+        room =
+            f .room;
+      },
+    ))
     (λ m. let (p, q) = whole-sound (set (t .0) (s .held) byte) (t .1) s (s .stage) refl l k f in (l, p, q)))
 
 -- one byte further the numbers are small again

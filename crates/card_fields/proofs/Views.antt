@@ -20,11 +20,13 @@ use Rattle.card_block.proofs.Words.{little-front}
 use Rattle.card_stream.specs.Cuts.{arrived}
 use Rattle.card_stream.specs.Parse.{above, parse}
 use Rattle.card_stream.proofs.Bytewise.{machine-parses}
-use Rattle.card_stream.specs.Fields.{Field, counting, measuring, naming, framing, filling, Stand, stopped, reading, size, orStop, toCome, named, measured, zeroed, whole, stepped, fed, ended}
+use Rattle.card_stream.specs.Fields.{Field, counting, measuring, naming, framing, filling, Stand, stopped, reading, size, orStop, toCome}
+use Rattle.card_stream.specs.Fields.{named, measured, zeroed, whole, stepped, fed, ended}
 use Rattle.card_fields.specs.declared.Fields.{Fields}
 use Rattle.card_fields.specs.declared.Stage.{Stage}
 use Rattle.card_fields.specs.declared.Stage.the-variants.{Counting, Measuring, Naming, Framing, Filling, Stopped}
-use Rattle.card_fields.specs.Step.{atFirst, begin, halt, comes, giving, goesOn, aboveLast, names, counts, measures, fills, wholeOf, State, step}
+use Rattle.card_fields.specs.Step.{atFirst, begin, halt, comes, giving, goesOn, aboveLast, names, counts, measures, fills, wholeOf}
+use Rattle.card_fields.specs.Step.{State, step}
 use Rattle.card_fields.specs.View.{lastOf, standAt, standOf, gained, stepKeeping, SizeAt}
 use Rattle.card_fields.proofs.Small.{either, Safe, step-safe}
 
@@ -36,7 +38,8 @@ above-view : (key : List ℕ) (last : ℕ) (name : List ℕ) → aboveLast key l
 unfolding aboveLast lastOf
 above-view key last name = go (eqb last 0)
   where
-    go : (b : Bool) → cond b true (pick (bytewise (take (last - 1) key) name) true false false) ≡ above (cond b none (some (take (last - 1) key))) name
+    go : (b : Bool) → cond b true (pick (bytewise (take (last - 1) key) name) true false false) ≡ above
+        (cond b none (some (take (last - 1) key))) name
     go true = refl
     go false = refl
 
@@ -63,7 +66,8 @@ module _ (field : List ℕ) (entries : Map) where
       rw (ne-eqb (suc n) 0 (omega arith), e)
 
   key-view : (key : List ℕ) (left place len : ℕ) → len ≤ length field
-      → view (putPart key 0 (part field 0 len), begin Framing (place + len) 8 left 0 (len + 1)) ≡ reading (framing left (take len field)) (place + len) [] entries
+      → view (putPart key 0 (part field 0 len), begin Framing (place + len) 8 left 0 (len + 1)) ≡ reading (framing left (take len field))
+      (place + len) [] entries
   unfolding view standAt gained putPart part
   key-view key left place len h =
       let e : len + 1 - 1 ≡ len = omega arith in
@@ -74,7 +78,8 @@ module _ (field : List ℕ) (entries : Map) where
   unfolding names
   names-view key left last place len h =
       rw (above-view key last (take len field), length-take-le len field h)
-      (stop-view (above (lastOf key last) (take len field)) key place (putPart key 0 (part field 0 len), begin Framing (place + len) 8 left 0 (len + 1)) (key-view key left place len h))
+      (stop-view (above (lastOf key last) (take len field)) key place
+      (putPart key 0 (part field 0 len), begin Framing (place + len) 8 left 0 (len + 1)) (key-view key left place len h))
 
   naming-view : (key : List ℕ) (left last place len : ℕ)
       → view (key, begin Naming place len left 0 last) ≡ reading (naming left (lastOf key last) len) place [] entries
@@ -93,7 +98,8 @@ module _ (field : List ℕ) (entries : Map) where
   measures-view key left last place zero h = names-view key left last (place + 2) 0 (omega arith)
   measures-view key left last place (suc len) h =
       rw (ne-eqb (suc len) 0 (omega arith))
-      (stop-view (leb (suc len) 256) key place (key, begin Naming (place + 2) (suc len) left 0 last) (naming-view key left last (place + 2) (suc len)))
+      (stop-view (leb (suc len) 256) key place (key, begin Naming (place + 2) (suc len) left 0 last)
+      (naming-view key left last (place + 2) (suc len)))
 
   counts-view : (key : List ℕ) (n place : ℕ) → view (key, counts n place) ≡ orStop (leb n 255) place (toCome n (place + 4) none entries)
   unfolding counts lastOf
@@ -105,7 +111,8 @@ module _ (field : List ℕ) (entries : Map) where
   unfolding fills
   fills-view key byte place zeros last =
       ap view (pair-cond (eqb byte 0) key (cond (eqb zeros 0) (halt place) (begin Filling (place + 1) 1 0 (zeros - 1) last)) (halt place))
-      ∙ stop-view (eqb byte 0) key place (key, cond (eqb zeros 0) (halt place) (begin Filling (place + 1) 1 0 (zeros - 1) last)) (zeros-view key place zeros last)
+      ∙ stop-view (eqb byte 0) key place (key, cond (eqb zeros 0) (halt place) (begin Filling (place + 1) 1 0 (zeros - 1) last))
+      (zeros-view key place zeros last)
 
   giving-view : (n place last : ℕ) (key : List ℕ) (frame : ℕ)
       → view (key, giving (comes n place last) frame) ≡ toCome n place (lastOf key last) (entries ++ (take (last - 1) key, frame) ∷ [])
@@ -146,15 +153,18 @@ whole-view : (stage : Stage) (field key : List ℕ) (s : Fields) (entries : Map)
     → Goes stage
     → view field entries (wholeOf stage field key s) ≡ whole (fieldAt stage key s) (s .place) (take (s .need) field) entries
 unfolding wholeOf whole
-whole-view Counting field key s entries h k (e, l) n = rw (e, little-take 4 field (omega arith)) (counts-view field entries key (littleEndian 4 field) (s .place))
+whole-view Counting field key s entries h k (e, l) n =
+    rw (e, little-take 4 field (omega arith)) (counts-view field entries key (littleEndian 4 field) (s .place))
 whole-view Measuring field key s entries h k (e, l) n =
     rw (e, little-take 2 field (omega arith)) (measures-view field entries key (s .left) (s .last) (s .place) (littleEndian 2 field) h)
 whole-view Naming field key s entries h k l n = names-view field entries key (s .left) (s .last) (s .place) (s .need) (omega arith)
 whole-view Framing field key s entries h k (e, l, m) n =
     rw (e, little-take 8 field (omega arith)) (giving-view field entries (s .left) (s .place + 8) (s .last) key (littleEndian 8 field)
-    ∙ ap (λ (o : Option (List ℕ)). toCome (s .left) (s .place + 8) o (entries ++ (take (s .last - 1) key, littleEndian 8 field) ∷ [])) (last-some key (s .last) m))
+    ∙ ap (λ (o : Option (List ℕ)). toCome (s .left) (s .place + 8) o (entries ++ (take (s .last - 1) key, littleEndian 8 field) ∷ []))
+    (last-some key (s .last) m))
 whole-view Filling field key s entries h k (e, l) n =
-    rw (e, little-take 1 field (omega arith), first-byte field) (fills-view field entries key (getD field 0 0) (s .place) (s .zeros) (s .last))
+    rw (e, little-take 1 field (omega arith), first-byte field)
+    (fills-view field entries key (getD field 0 0) (s .place) (s .zeros) (s .last))
 whole-view Stopped field key s entries h k l n = absurd n
 
 -- one more byte in front of where it was stored
@@ -164,13 +174,17 @@ held-more field held byte h = rw (add-one held) (take-suc-set field held byte h)
 -- a byte of a field, for a machine that has not stopped
 running : (f : Field) (field key : List ℕ) (s : Fields) (byte : ℕ) (entries : Map) → size f ≡ s .need → s .held < s .need → s .need ≤ 256
     → length field ≡ 256
-    → standAt (s .stage) (set field (s .held) byte) key (goesOn s) entries ≡ reading f (s .place) (take (s .held + 1) (set field (s .held) byte)) entries
-    → view (set field (s .held) byte) entries (wholeOf (s .stage) (set field (s .held) byte) key s) ≡ whole f (s .place) (take (s .need) (set field (s .held) byte)) entries
-    → standOf (step (field, key, s) byte) (gained (step (field, key, s) byte) entries) ≡ stepped (reading f (s .place) (take (s .held) field) entries) byte
+    → standAt (s .stage) (set field (s .held) byte) key (goesOn s) entries ≡ reading f (s .place)
+    (take (s .held + 1) (set field (s .held) byte)) entries
+    → view (set field (s .held) byte) entries (wholeOf (s .stage) (set field (s .held) byte) key s) ≡ whole f (s .place)
+    (take (s .need) (set field (s .held) byte)) entries
+    → standOf (step (field, key, s) byte) (gained (step (field, key, s) byte) entries) ≡ stepped
+    (reading f (s .place) (take (s .held) field) entries) byte
 unfolding step stepped gained view
 running f field key s byte entries e h k l on wh =
     let m : length (take (s .held) field) ≡ s .held = length-take-le (s .held) field (omega arith) in
-    let t : take (s .held + 1) (set field (s .held) byte) ≡ take (s .held) field ++ byte ∷ [] = held-more field (s .held) byte (omega arith) in
+    let t : take (s .held + 1) (set field (s .held) byte) ≡ take (s .held) field ++ byte ∷ [] =
+    held-more field (s .held) byte (omega arith) in
     ⊎-elim
     (λ d.
     rw (ne-eqb (s .need) 0 (omega arith), m, e, lt-ltb (s .held + 1) (s .need) d)
@@ -219,12 +233,14 @@ comes-sized n place last = either Sized (eqb n 0) (λ e. (refl, omega arith)) (�
 
 giving-sized : (n place last frame : ℕ) → Sized (giving (comes n place last) frame)
 unfolding comes
-giving-sized n place last frame = either (λ (s : Fields). Sized (giving s frame)) (eqb n 0) (λ e. (refl, omega arith)) (λ e. (refl, omega arith))
+giving-sized n place last frame = either (λ (s : Fields). Sized (giving s frame)) (eqb n 0) (λ e. (refl, omega arith))
+    (λ e. (refl, omega arith))
 
 names-sized : (field key : List ℕ) (left last place len : ℕ) → Sized (names field key left last place len .1)
 unfolding names
 names-sized field key left last place len =
-    either (λ (p : List ℕ × Fields). Sized (p .1)) (aboveLast key last (take len field)) (λ e. (refl, omega arith, omega arith)) (λ e. (refl, refl))
+    either (λ (p : List ℕ × Fields). Sized (p .1)) (aboveLast key last (take len field)) (λ e. (refl, omega arith, omega arith))
+    (λ e. (refl, refl))
 
 measures-sized : (field key : List ℕ) (left last place len : ℕ) → Sized (measures field key left last place len .1)
 unfolding measures

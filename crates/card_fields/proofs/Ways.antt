@@ -15,7 +15,8 @@ use Rattle.ikey.specs.declared.Ordering.the-variants.{Less, Equal, Greater}
 use Rattle.ikey.specs.Said.{orderOf}
 use Rattle.card_fields.specs.declared.Fields.{Fields}
 use Rattle.card_fields.specs.declared.Stage.the-variants.{Counting, Measuring, Naming, Framing, Filling, Stopped}
-use Rattle.card_fields.specs.Step.{begin, halt, comes, giving, goesOn, aboveLast, names, counts, measures, fills, wholeOf, State, step}
+use Rattle.card_fields.specs.Step.{begin, halt, comes, giving, goesOn, aboveLast, names, counts, measures, fills, wholeOf, State}
+use Rattle.card_fields.specs.Step.{step}
 
 -- entries to come, or the fill
 module _ (n place last : ℕ) {s : Fields} where
@@ -79,11 +80,14 @@ module _ (field key : List ℕ) (left last place len : ℕ) {b : Bool} (e : b �
       → s ≡ begin Framing (place + len) 8 left 0 (len + 1)
       → _≡_ {A = List ℕ × Fields} (after, s) (names field key left last place len)
   unfolding names
-  names-above h f g = let d : len ≡ len - 0 = omega arith in rw (f, g) (let t : aboveLast key last (take len field) ≡ true = ap (λ (n : ℕ). aboveLast key last (take n field)) d ∙ sym e ∙ h in rw t)
+  names-above h f g = let d : len ≡ len - 0 = omega arith in
+      rw (f, g) (let t : aboveLast key last (take len field) ≡ true = ap (λ (n : ℕ). aboveLast key last (take n field)) d ∙ sym e ∙ h in
+      rw t)
 
   pub names-not : {s : Fields} → b ≡ false → s ≡ halt place → _≡_ {A = List ℕ × Fields} (key, s) (names field key left last place len)
   unfolding names
-  names-not h g = let d : len ≡ len - 0 = omega arith in rw g (let t : aboveLast key last (take len field) ≡ false = ap (λ (n : ℕ). aboveLast key last (take n field)) d ∙ sym e ∙ h in rw t)
+  names-not h g = let d : len ≡ len - 0 = omega arith in
+      rw g (let t : aboveLast key last (take len field) ≡ false = ap (λ (n : ℕ). aboveLast key last (take n field)) d ∙ sym e ∙ h in rw t)
 
 -- a length has come
 module _ (field key : List ℕ) (left last place len : ℕ) where
@@ -173,8 +177,19 @@ module _ (field key : List ℕ) (s : Fields) (byte : ℕ) where
     unfolding step
     step-whole l f = rw (ne-eqb (s .need) 0 h, le-ltb (s .held + 1) (s .need) l, ← e, ← f)
 
-pub ruleset ways =
-    (comes-fill, comes-entry, counts-over, counts-right, fills-over, fills-on, fills-not, above-none, above-less, above-equal, above-greater)
+pub ruleset ways = (
+  comes-fill,
+  comes-entry,
+  counts-over,
+  counts-right,
+  fills-over,
+  fills-on,
+  fills-not,
+  above-none,
+  above-less,
+  above-equal,
+  above-greater,
+)
 
 pub ruleset keys = (names-above, names-not, measures-over, measures-none, measures-some)
 

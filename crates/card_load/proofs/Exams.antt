@@ -133,11 +133,13 @@ module _ (m : Memory) (image : List ℕ) {x : Exam} (e : x ≡ examined (length 
           → did (saidLoaded l) m
           ≡ cond
           (allHold
-          ((10 unless y) ∷ (15 unless w) ∷ ((16 unless g) telling (badBlock image ∷ [])) ∷ ((17 unless asWritten p) telling (wrongAt p ∷ [])) ∷ []))
+          ((10 unless y) ∷ (15 unless w) ∷ ((16 unless g) telling (badBlock image ∷ []))
+          ∷ ((17 unless asWritten p) telling (wrongAt p ∷ [])) ∷ []))
           (loaded m (entriesOf p))
           (did
           (answered
-          ((10 unless y) ∷ (15 unless w) ∷ ((16 unless g) telling (badBlock image ∷ [])) ∷ ((17 unless asWritten p) telling (wrongAt p ∷ [])) ∷ []) [] [])
+          ((10 unless y) ∷ (15 unless w) ∷ ((16 unless g) telling (badBlock image ∷ []))
+          ∷ ((17 unless asWritten p) telling (wrongAt p ∷ [])) ∷ []) [] [])
           m)
       by true true true (wrong place) f = ap (λ (u : Exam). did (saidExam u) m) f
       by true true true (right es) f = let z : _≡_ {A = ℕ} 0 1 = cc in absurd (omega arith)

@@ -106,7 +106,8 @@ unfolding filled
 filled-is m bytes {es} e =
     let d = did (accepted (0 ∷ [])) (emptyOf m) in
     let p = arrived stepKeeping ((zeros 256, zeros 256, atFirst), []) bytes in
-    let k : p .1 ≡ es = stand-entries (p .0 .2 .stage) (p .0 .0) (p .0 .1) (p .0 .2) (p .1) (machine-is-parser (zeros 256) (zeros 256) bytes refl refl ∙ e) in
+    let k : p .1 ≡ es = stand-entries (p .0 .2 .stage) (p .0 .0) (p .0 .1) (p .0 .2) (p .1)
+    (machine-is-parser (zeros 256) (zeros 256) bytes refl refl ∙ e) in
     ap (λ (b : Both). b .1) (all-kept d bytes ((zeros 256, zeros 256, atFirst), []))
     ∙ ap (λ (l : Map). putsAfter putLent d l) k
 

@@ -24,7 +24,8 @@ module _ (image : List ℕ) (n : ℕ) where
   pub bad-first : firstBad 0 (n - 0) image ≡ firstBad 0 n image
   bad-first = let e : n - 0 ≡ n = omega arith in rw e
 
-  module _ (i : ℕ) {r : ℕ} (h : i < n) (e : firstBad i (n - i) image ≡ r) {b : Bool} (f : b ≡ goodBlock (i % 2 ^ 32) (take (512 * i + 512 - 512 * i) (drop (512 * i) image))) where
+  module _ (i : ℕ) {r : ℕ} (h : i < n) (e : firstBad i (n - i) image ≡ r) {b : Bool}
+      (f : b ≡ goodBlock (i % 2 ^ 32) (take (512 * i + 512 - 512 * i) (drop (512 * i) image))) where
     bad-here : cond b (firstBad (i + 1) (n - (i + 1)) image) i ≡ r
     unfolding firstBad
     bad-here =

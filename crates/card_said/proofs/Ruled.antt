@@ -92,7 +92,8 @@ module _ (m : Memory) (image : List ℕ) where
   pub load-cases : ((es : Map) × Fits m × Readable image es) ⊎ Untouched
   unfolding loadDone allHold
   load-cases =
-      by (rightLengths (length (m .nodes)) (length (m .cells)) (length (m .bytes))) (wholeBlocks (length image)) (checksGood image) (read image)
+      by (rightLengths (length (m .nodes)) (length (m .cells)) (length (m .bytes))) (wholeBlocks (length image)) (checksGood image)
+      (read image)
       refl refl refl refl
     where
       by : (y w g : Bool) (p : Parsed) → rightLengths (length (m .nodes)) (length (m .cells)) (length (m .bytes)) ≡ y
@@ -262,7 +263,8 @@ module _ (m : Memory) (image : List ℕ) (b : Bytes image) where
       → (loadDone m image .after ≡ left m clear) × FailsFirst m asCalls (entriesOf (read image)) (heardAs (loadDone m image .answer))
   load-refused-as n = by load-ends
     where
-      by : Ends → (loadDone m image .after ≡ left m clear) × FailsFirst m asCalls (entriesOf (read image)) (heardAs (loadDone m image .answer))
+      by : Ends → (loadDone m image .after ≡ left m clear)
+          × FailsFirst m asCalls (entriesOf (read image)) (heardAs (loadDone m image .answer))
       by (inl u) = absurd (none n)
         where
           none : NoRoom (loadDone m image .answer) → ⊥

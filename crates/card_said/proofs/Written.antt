@@ -151,6 +151,7 @@ module _ (m : Memory) (v : Layers) (t : IsTree m v) where
         ∙ take-at (imageOf es) (drop (512 * blocksFor es) out) (512 * blocksFor es) (image-is-accepted es listed-writable .0) in
         subst
         (λ (image : List ℕ). ReachesEntries (loadDone n image)
-        × (loadDone n image .answer .number ≡ 0 → (w : Layers) → IsTree (loadDone n image .after) w → listing (loadDone n image .after) w ≡ es))
+        × (loadDone n image .answer .number ≡ 0 → (w : Layers) → IsTree (loadDone n image .after) w
+        → listing (loadDone n image .after) w ≡ es))
         (sym i)
         (written-reached n f (imageOf es) (record { entries = es; writable = listed-writable; image-of = refl }), saved-loads n f)

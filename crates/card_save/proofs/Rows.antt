@@ -28,7 +28,8 @@ notes-fit pre (c ∷ cs) k =
     let e : suc (length cs) + k ≡ suc (length cs + k) = omega arith in
     let g : length (pre ++ c ∷ []) ≡ length pre + 1 = simp length-append in
     let f : length (pre ++ c ∷ []) + length cs ≡ length pre + suc (length cs) = omega arith in
-    let s : pre ++ c ∷ zeros (length cs + k) ≡ (pre ++ c ∷ []) ++ zeros (length cs + k) = sym (append-assoc pre (c ∷ []) (zeros (length cs + k))) in
+    let s : pre ++ c ∷ zeros (length cs + k) ≡ (pre ++ c ∷ []) ++ zeros (length cs + k) =
+    sym (append-assoc pre (c ∷ []) (zeros (length cs + k))) in
     ap (λ (n : ℕ). notedAll (pre ++ zeros n, length pre) (c ∷ cs)) e
     ∙ ap (λ (p : List ℕ × ℕ). notedAll p cs) (note-next pre (length cs + k) c ∙ ap₂ (λ (l : List ℕ) (n : ℕ). (l, n)) s (sym g))
     ∙ notes-fit (pre ++ c ∷ []) cs k

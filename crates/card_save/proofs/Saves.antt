@@ -74,7 +74,8 @@ module _ (cells bytes : List ℕ) where
   entries-row row i (c ∷ cs) f h (s a∷ ss) =
       ap₂ (λ (e : List ℕ × ℕ) (es : Map). e ∷ es)
       (entry-row row i c (let z : i + 0 ≡ i = omega arith in ap (λ (j : ℕ). getD row j 0) (sym z) ∙ f 0 (omega arith)) (omega arith) s)
-      (entries-row row (i + 1) cs (λ k l. let z : i + 1 + k ≡ i + suc k = omega arith in ap (λ (j : ℕ). getD row j 0) z ∙ f (suc k) (omega arith)) (omega arith) ss)
+      (entries-row row (i + 1) cs (λ k l. let z : i + 1 + k ≡ i + suc k = omega arith in
+      ap (λ (j : ℕ). getD row j 0) z ∙ f (suc k) (omega arith)) (omega arith) ss)
 
 -- ---- a tree
 
@@ -125,7 +126,8 @@ module _ (nodes cells bytes : List ℕ) (y : isTree (memory nodes cells bytes) �
           small = omega (arith, r .bytes-whole, r .c-high);
           bytes = λ k h.
               let s : Sound cells (getD order k 0) =
-              subst (λ (l : List ℕ). Sound cells (getD l k 0)) (sym row-is) (all-at cs (zeros (255 - length cs)) sound k (omega (arith, count-is))) in
+              subst (λ (l : List ℕ). Sound cells (getD l k 0)) (sym row-is)
+              (all-at cs (zeros (255 - length cs)) sound k (omega (arith, count-is))) in
               omega (arith, s .here, r .cells-whole, r .bytes-whole);
         }
 
@@ -136,7 +138,8 @@ module _ (nodes cells bytes : List ℕ) (y : isTree (memory nodes cells bytes) �
         ∙ ap (λ (es : Map). written es out)
         (ap (entriesAt (lent order cells bytes) 0) count-is
         ∙ entries-row cells bytes order 0 cs
-        (λ k h. ap (λ (l : List ℕ). getD l (0 + k) 0) row-is ∙ ap (λ (j : ℕ). getD (cs ++ zeros (255 - length cs)) j 0) (let z : 0 + k ≡ k = omega arith in z)
+        (λ k h. ap (λ (l : List ℕ). getD l (0 + k) 0) row-is
+        ∙ ap (λ (j : ℕ). getD (cs ++ zeros (255 - length cs)) j 0) (let z : 0 + k ≡ k = omega arith in z)
         ∙ List·getD-append cs (zeros (255 - length cs)) 0 k h)
         (omega (arith, row-length, few)) sound)
 

@@ -16,7 +16,8 @@ use Rattle.card_block.specs.Words.{littleEndian}
 use Rattle.card_block.proofs.Words.{little-front}
 use Rattle.card_stream.specs.Stream.{lacking}
 use Rattle.card_stream.specs.Parse.{Parsed, wrong, right, asks, infront, above, fillFrom, entriesFrom, parse}
-use Rattle.card_stream.specs.Fields.{Field, counting, measuring, naming, framing, filling, Stand, stopped, reading, size, orStop, toCome, named, measured, zeroed, whole, stepped, fed, start, ended}
+use Rattle.card_stream.specs.Fields.{Field, counting, measuring, naming, framing, filling, Stand, stopped, reading, size, orStop}
+use Rattle.card_stream.specs.Fields.{toCome, named, measured, zeroed, whole, stepped, fed, start, ended}
 
 le-or-gt : (a b : ℕ) → (a ≤ b) ⊎ (b < a)
 le-or-gt a b = ⊎-elim (λ h. inr h) (λ h. inl h) (lt-or-ge b a)
@@ -113,23 +114,28 @@ fill-agrees : (n place : ℕ) (bytes : List ℕ) (entries : Map)
 unfolding ended fed fillFrom whole littleEndian
 fill-agrees zero place [] entries = ap right (sym (append-nil entries))
 fill-agrees (suc n) place [] entries = refl
-fill-agrees zero place (x ∷ bytes) entries = rw (is-whole (filling zero) place entries [] x (omega arith)) (left-over (eqb (x + 256 * 0) 0) place bytes entries)
+fill-agrees zero place (x ∷ bytes) entries =
+    rw (is-whole (filling zero) place entries [] x (omega arith)) (left-over (eqb (x + 256 * 0) 0) place bytes entries)
 fill-agrees (suc n) place (x ∷ bytes) entries =
     let e : x + 256 * 0 ≡ x = omega arith in
-    rw (is-whole (filling (suc n)) place entries [] x (omega arith), e) (zero-or-not (eqb x 0) n place x bytes entries (fill-agrees n (place + 1) bytes entries))
+    rw (is-whole (filling (suc n)) place entries [] x (omega arith), e)
+    (zero-or-not (eqb x 0) n place x bytes entries (fill-agrees n (place + 1) bytes entries))
 
 -- a key that is judged, and the frame behind it
 module _ (n : ℕ) (last : Option (List ℕ)) (entries : Map)
-    (again : (place : ℕ) (last : Option (List ℕ)) (bytes : List ℕ) (entries : Map) → ended (fed (toCome n place last entries) bytes) ≡ onto entries (entriesFrom n place last bytes)) where
+    (again : (place : ℕ) (last : Option (List ℕ)) (bytes : List ℕ) (entries : Map)
+    → ended (fed (toCome n place last entries) bytes) ≡ onto entries (entriesFrom n place last bytes)) where
   framed-agrees : (place : ℕ) (key bytes : List ℕ) → ended (fed (reading (framing n key) place [] entries) bytes)
-      ≡ onto entries (asks (leb 8 (length bytes)) place (infront (key, littleEndian 8 bytes) (entriesFrom n (place + 8) (some key) (drop 8 bytes))))
+      ≡ onto entries (asks (leb 8 (length bytes)) place
+      (infront (key, littleEndian 8 bytes) (entriesFrom n (place + 8) (some key) (drop 8 bytes))))
   unfolding ended whole
   framed-agrees place key bytes =
       ⊎-elim
       (λ h. rw (too-few (framing n key) place entries [] bytes (omega arith), lt-leb 8 (length bytes) h))
       (λ h.
       rw (field-whole (framing n key) place entries 8 bytes refl (omega arith) h, le-leb 8 (length bytes) h, little-take 8 bytes h)
-      (again (place + 8) (some key) (drop 8 bytes) (entries ++ (key, littleEndian 8 bytes) ∷ []) ∙ onto-one entries (key, littleEndian 8 bytes) (entriesFrom n (place + 8) (some key) (drop 8 bytes))))
+      (again (place + 8) (some key) (drop 8 bytes) (entries ++ (key, littleEndian 8 bytes) ∷ [])
+      ∙ onto-one entries (key, littleEndian 8 bytes) (entriesFrom n (place + 8) (some key) (drop 8 bytes))))
       (lt-or-ge (length bytes) 8)
 
   named-agrees : (b : Bool) (place : ℕ) (key bytes : List ℕ)
@@ -173,7 +179,8 @@ module _ (n : ℕ) (last : Option (List ℕ)) (entries : Map)
       let j : place + (2 + len) + 8 ≡ place + (10 + len) = omega arith in
       let m : 2 + len + 8 ≡ 10 + len = omega arith in
       rw (le-leb len (length d) l, measured-whole (place + 2) len d l, drop-drop len 2 bytes, i)
-      (rw (i, j, drop-drop len 2 bytes, drop-drop 8 (2 + len) bytes, m) at (named-agrees (above last (take len d)) (place + 2) (take len d) (drop len d))))
+      (rw (i, j, drop-drop len 2 bytes, drop-drop 8 (2 + len) bytes, m) at
+      (named-agrees (above last (take len d)) (place + 2) (take len d) (drop len d))))
       (lt-or-ge (length d) len)))
       (λ k. rw (lt-leb len 256 k, stays))
       (le-or-gt len 256)))

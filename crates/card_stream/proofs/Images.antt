@@ -39,7 +39,18 @@ image-more stream out₀ n i h l m e f =
     let u : 512 * i + 512 - 512 * i ≡ 512 = omega arith in
     let v : 512 * (i + 1) ≡ 512 * i + 512 = omega arith in
     let w : length (blocksOf i stream) ≡ 512 * i = image-length i stream (omega arith) in
-    rw (e, f, t, u, v, add-one i, take-at (blocksOf i stream) (drop (512 * i) out₀) (512 * i) w, drop-at (blocksOf i stream) (drop (512 * i) out₀) (512 * i) w, drop-drop 512 (512 * i) out₀)
+    rw (
+      e,
+      f,
+      t,
+      u,
+      v,
+      add-one i,
+      take-at (blocksOf i stream) (drop (512 * i) out₀) (512 * i) w,
+      drop-at (blocksOf i stream)
+          (drop (512 * i) out₀) (512 * i) w,
+      drop-drop 512 (512 * i) out₀,
+    )
     (sym (append-assoc (blocksOf i stream) (blockOf i (take 504 (drop (504 * i) stream))) (drop (512 * i + 512) out₀)))
 
 pub image-all : (stream out₀ : List ℕ) (n i : ℕ) {out : List ℕ} → i ≤ n → n ≤ i → out ≡ blocksOf i stream ++ drop (512 * i) out₀

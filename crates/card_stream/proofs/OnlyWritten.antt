@@ -110,7 +110,8 @@ told (suc n) place last {bytes} {es} b e0 =
     let (h4, e4) = asked _ _ _ e3 in
     let (h5, e5) = asked _ _ _ e4 in
     let (es', r, s) = parted (key, frame) _ e5 in
-    rw s (one-more n place last b len refl (leb-true _ _ h1) (leb-true _ _ h2) (leb-true _ _ h3) (leb-true _ _ h5) h4 (told n (place + (10 + len)) (some key) (bytes-drop (10 + len) b) r))
+    rw s (one-more n place last b len refl (leb-true _ _ h1) (leb-true _ _ h2) (leb-true _ _ h3) (leb-true _ _ h5) h4
+    (told n (place + (10 + len)) (some key) (bytes-drop (10 + len) b) r))
   where
     one-more : (n place : ℕ) (last : Option (List ℕ)) {bytes : List ℕ} (b : Bytes bytes) (len : ℕ) → littleEndian 2 bytes ≡ len
         → 2 ≤ length bytes → len ≤ 256
@@ -122,7 +123,8 @@ told (suc n) place last {bytes} {es} b e0 =
         let frame = littleEndian 8 (drop (2 + len) bytes) in
         let f : List ℕ = flattened entryBytes es in
         let m : length key ≡ len = key-length b len e h k l in
-        let i : place + (10 + len) + length f ≡ place + length (entryBytes (key, frame) ++ f) = simp (length-append, entry-length key frame) (omega arith) in
+        let i : place + (10 + len) + length f ≡ place + length (entryBytes (key, frame) ++ f) =
+        simp (length-append, entry-length key frame) (omega arith) in
         record {
           count = ap suc (t .count);
           made =

@@ -26,7 +26,8 @@ entry-length key frame = simp (length-append, low-length) (omega arith)
 -- one entry
 entry-read : (n place : ℕ) (last : Option (List ℕ)) (key : List ℕ) (frame : ℕ) (rest : List ℕ) → length key ≤ 256 → frame < 2 ^ 64
     → above last key ≡ true
-    → entriesFrom (suc n) place last (entryBytes (key, frame) ++ rest) ≡ infront (key, frame) (entriesFrom n (place + (10 + length key)) (some key) rest)
+    → entriesFrom (suc n) place last (entryBytes (key, frame) ++ rest) ≡ infront (key, frame)
+    (entriesFrom n (place + (10 + length key)) (some key) rest)
 unfolding entriesFrom entryBytes
 entry-read n place last key frame rest h k a =
     let len : ℕ = length key in
@@ -47,7 +48,20 @@ entry-read n place last key frame rest h k a =
     let l : length bytes ≡ 2 + (len + (8 + length rest)) = simp (length-append, low-length) (omega arith) in
     let m : length (key ++ (f ++ rest)) ≡ len + (8 + length rest) = simp (length-append, low-length) (omega arith) in
     let o : length (f ++ rest) ≡ 8 + length rest = simp (length-append, low-length) (omega arith) in
-    rw (p, q, r, s, t, u, a, le-leb 2 (length bytes) (omega arith), le-leb len 256 h, le-leb len (length (key ++ (f ++ rest))) (omega arith), le-leb 8 (length (f ++ rest)) (omega arith))
+    rw (
+      p,
+      q,
+      r,
+      s,
+      t,
+      u,
+      a,
+      le-leb 2 (length bytes) (omega arith),
+      le-leb len 256 h,
+      le-leb len (length (key ++ (f ++ rest)))
+          (omega arith),
+      le-leb 8 (length (f ++ rest)) (omega arith),
+    )
 
 -- the fill
 fill-read : (n place : ℕ) → fillFrom n place (zeros n) ≡ right []
@@ -63,9 +77,11 @@ unfolding entriesFrom
 entries-read place last a[] s[] a[] = rw add-zero (fill-read (lacking place) place)
 entries-read place last (_a∷_ {x = e} {xs = es} h hs) (l s∷ s) (a a∷ as') =
     let f : List ℕ = flattened entryBytes es in
-    let i : place + length (entryBytes e ++ f) ≡ place + (10 + length (e .0)) + length f = simp (length-append, entry-length (e .0) (e .1)) (omega arith) in
+    let i : place + length (entryBytes e ++ f) ≡ place + (10 + length (e .0)) + length f =
+    simp (length-append, entry-length (e .0) (e .1)) (omega arith) in
     rw (i, append-assoc (entryBytes e) f (zeros (lacking (place + (10 + length (e .0)) + length f))))
-    (entry-read (length es) place last (e .0) (e .1) (f ++ zeros (lacking (place + (10 + length (e .0)) + length f))) (h .short) (h .frame) a
+    (entry-read (length es) place last (e .0) (e .1) (f ++ zeros (lacking (place + (10 + length (e .0)) + length f))) (h .short)
+    (h .frame) a
     ∙ ap (infront e) (entries-read (place + (10 + length (e .0))) (some (e .0)) hs s (all-map (λ d p. rw p) l)))
 
 -- the whole stream

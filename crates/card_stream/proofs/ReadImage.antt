@@ -49,7 +49,14 @@ payload-image zero s rest h = refl
 payload-image (suc n) s rest h =
     let b : List ℕ = blockOf n (heldBy n s) in
     let e : 504 * suc n ≡ 504 * n + 504 = omega arith in
-    rw (append-assoc (blocksOf n s) b rest, e, take-add (504 * n) 504 s, payload-image n s (b ++ rest) (omega arith), last-payload n s rest (omega arith))
+    rw (
+      append-assoc (blocksOf n s) b rest,
+      e,
+      take-add (504 * n) 504 s,
+      payload-image n s (b ++ rest) (omega arith),
+      last-payload n s rest
+          (omega arith),
+    )
     (ap (λ (l : List ℕ). take (504 * n) s ++ l) (part-is s (504 * n) 504))
 
 -- its blocks are the writer's, and every check is good

@@ -41,8 +41,10 @@ unfolding piece sizeOf
 piece-length m n zero w h = low-length 4 n
 piece-length m n (suc k) w h =
     let e : suc k - 1 ≡ k = omega arith in
-    let l : length (part (m .keys) (256 * getD (m .places) k 0) (lenAt m k)) ≡ lenAt m k = part-length (m .keys) (256 * getD (m .places) k 0) (lenAt m k) (omega (arith, w .bytes k (omega arith))) in
-    rw (ne-eqb (suc k) 0 (omega arith), e) (entry-length (part (m .keys) (256 * getD (m .places) k 0) (lenAt m k)) (getD (m .frames) k 0) ∙ ap (λ (x : ℕ). 10 + x) l)
+    let l : length (part (m .keys) (256 * getD (m .places) k 0) (lenAt m k)) ≡ lenAt m k =
+    part-length (m .keys) (256 * getD (m .places) k 0) (lenAt m k) (omega (arith, w .bytes k (omega arith))) in
+    rw (ne-eqb (suc k) 0 (omega arith), e) (entry-length (part (m .keys) (256 * getD (m .places) k 0) (lenAt m k)) (getD (m .frames) k 0)
+    ∙ ap (λ (x : ℕ). 10 + x) l)
 
 module _ (m : Lent) (n : ℕ) (w : Whole m n) (c : Cursor) (q : Placed (m .lens) n c) where
   -- the rest begins in the present piece
@@ -63,7 +65,8 @@ module _ (m : Lent) (n : ℕ) (w : Whole m n) (c : Cursor) (q : Placed (m .lens)
   byte-here h e =
       let l : length (piece m n (c .piece)) ≡ sizeOf (m .lens) (c .piece) = piece-length m n (c .piece) w h in
       rw (rest-here h)
-      (e ∙ sym (getD-drop (c .at) _ 0 0 ∙ ap (λ (i : ℕ). getD (piece m n (c .piece) ++ piecesFrom m n (c .piece + 1) (n - c .piece)) i 0) (add-zero (c .at))
+      (e ∙ sym (getD-drop (c .at) _ 0 0 ∙ ap (λ (i : ℕ). getD (piece m n (c .piece) ++ piecesFrom m n (c .piece + 1) (n - c .piece)) i 0)
+      (add-zero (c .at))
       ∙ List·getD-append (piece m n (c .piece)) _ 0 (c .at) (omega (arith, q .inPiece))))
 
   pub byte-none : n < c .piece → 0 ≡ getD (restOf m n c) 0 0
@@ -80,7 +83,8 @@ module _ (m : Lent) (n : ℕ) (w : Whole m n) (c : Cursor) (q : Placed (m .lens)
       let l : length (piece m n (c .piece)) ≡ sizeOf (m .lens) (c .piece) = piece-length m n (c .piece) w h in
       let a : length (piece m n (c .piece)) ≡ c .at + 1 = omega (arith, q .inPiece) in
       let e : n + 1 - (c .piece + 1) ≡ n - c .piece = omega arith in
-      rest-at-start e ∙ sym (ap (drop 1) (rest-here h) ∙ drop-drop 1 (c .at) _ ∙ drop-at (piece m n (c .piece)) (piecesFrom m n (c .piece + 1) (n - c .piece)) (c .at + 1) a)
+      rest-at-start e ∙ sym (ap (drop 1) (rest-here h) ∙ drop-drop 1 (c .at) _
+      ∙ drop-at (piece m n (c .piece)) (piecesFrom m n (c .piece + 1) (n - c .piece)) (c .at + 1) a)
 
   pub next-rest : restOf m n (nextOf (m .lens) n c) ≡ drop 1 (restOf m n c)
   unfolding nextOf
@@ -104,12 +108,14 @@ module _ (lens : List ℕ) (n : ℕ) (c : Cursor) where
   pub next-in : {size : ℕ} → c .piece ≤ n → size ≡ sizeOf lens (c .piece) → c .at + 1 < size
       → record { piece = c .piece; at = c .at + 1 } ≡ nextOf lens n c
   unfolding nextOf
-  next-in h e l = let k : c .at + 1 < sizeOf lens (c .piece) = rw e at l in rw (le-leb (c .piece) n h, lt-ltb (c .at + 1) (sizeOf lens (c .piece)) k)
+  next-in h e l = let k : c .at + 1 < sizeOf lens (c .piece) = rw e at l in
+      rw (le-leb (c .piece) n h, lt-ltb (c .at + 1) (sizeOf lens (c .piece)) k)
 
   pub next-over : {size : ℕ} → c .piece ≤ n → size ≡ sizeOf lens (c .piece) → size ≤ c .at + 1
       → record { piece = c .piece + 1; at = 0 } ≡ nextOf lens n c
   unfolding nextOf
-  next-over h e l = let k : sizeOf lens (c .piece) ≤ c .at + 1 = rw e at l in rw (le-leb (c .piece) n h, le-ltb (c .at + 1) (sizeOf lens (c .piece)) k)
+  next-over h e l = let k : sizeOf lens (c .piece) ≤ c .at + 1 = rw e at l in
+      rw (le-leb (c .piece) n h, le-ltb (c .at + 1) (sizeOf lens (c .piece)) k)
 
 -- no piece is empty, and none is over 266 bytes
 sizes : (lens : List ℕ) (p : ℕ) → (0 < sizeOf lens p) × (sizeOf lens p ≤ 266)

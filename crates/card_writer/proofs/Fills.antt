@@ -24,7 +24,8 @@ unfolding front
 front-more zero r = refl
 front-more (suc j) r =
     let i : 1 + j ≡ suc j = omega arith in
-    ap (λ (l : List ℕ). getD r 0 0 ∷ l) (front-more j (drop 1 r) ∙ ap (λ (l : List ℕ). front j (drop 1 r) ++ getD l 0 0 ∷ []) (drop-drop j 1 r ∙ ap (λ (k : ℕ). drop k r) i))
+    ap (λ (l : List ℕ). getD r 0 0 ∷ l) (front-more j (drop 1 r)
+    ∙ ap (λ (l : List ℕ). front j (drop 1 r) ++ getD l 0 0 ∷ []) (drop-drop j 1 r ∙ ap (λ (k : ℕ). drop k r) i))
 
 -- a byte stored behind what is filled
 put-more : (d ys : List ℕ) (j y : ℕ) → length ys ≡ j → j < length d → set (putPart d 0 ys) j y ≡ putPart d 0 (ys ++ y ∷ [])

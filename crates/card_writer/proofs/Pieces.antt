@@ -63,7 +63,8 @@ behind xs ys n i e h =
     ap (λ (k : ℕ). getD (xs ++ ys) k 0) j ∙ getD-append-add xs ys (i - n) 0
 
 -- the bytes of entry k
-module _ (order cells bytes : List ℕ) (k at : ℕ) {len : ℕ} (e : len ≡ min (getD (lensOf order cells) k 0) 256) (h : 256 * getD order k 0 + 256 ≤ length bytes) where
+module _ (order cells bytes : List ℕ) (k at : ℕ) {len : ℕ} (e : len ≡ min (getD (lensOf order cells) k 0) 256)
+    (h : 256 * getD order k 0 + 256 ≤ length bytes) where
   key-length : length (part bytes (256 * getD order k 0) (min (getD (lensOf order cells) k 0) 256)) ≡ len
   key-length = part-length bytes (256 * getD order k 0) (min (getD (lensOf order cells) k 0) 256) (omega arith) ∙ sym e
 
@@ -75,20 +76,24 @@ module _ (order cells bytes : List ℕ) (k at : ℕ) {len : ℕ} (e : len ≡ mi
       ∙ sym (List·getD-append (lowFirst 2 n) _ 0 at (rw low-length l))
 
   past-length : 2 ≤ at → getD (entryBytes (entryAt (lent order cells bytes) k)) at 0
-      ≡ getD (part bytes (256 * getD order k 0) (min (getD (lensOf order cells) k 0) 256) ++ lowFirst 8 (getD (framesOf order cells) k 0)) (at - 2) 0
+      ≡ getD (part bytes (256 * getD order k 0) (min (getD (lensOf order cells) k 0) 256) ++ lowFirst 8 (getD (framesOf order cells) k 0))
+      (at - 2) 0
   unfolding entryBytes
-  past-length l = behind (lowFirst 2 (length (part bytes (256 * getD order k 0) (min (getD (lensOf order cells) k 0) 256)))) _ 2 at (low-length 2 _) l
+  past-length l = behind (lowFirst 2 (length (part bytes (256 * getD order k 0) (min (getD (lensOf order cells) k 0) 256)))) _ 2 at
+      (low-length 2 _) l
 
   pub byte-of-key : 2 ≤ at → at - 2 < len
       → getD bytes (256 * getD order k 0 + (at - 2)) 0 ≡ getD (entryBytes (entryAt (lent order cells bytes) k)) at 0
   byte-of-key l j =
-      sym (past-length l ∙ List·getD-append (part bytes (256 * getD order k 0) (min (getD (lensOf order cells) k 0) 256)) (lowFirst 8 (getD (framesOf order cells) k 0)) 0 (at - 2) (rw key-length j)
+      sym (past-length l ∙ List·getD-append (part bytes (256 * getD order k 0) (min (getD (lensOf order cells) k 0) 256))
+      (lowFirst 8 (getD (framesOf order cells) k 0)) 0 (at - 2) (rw key-length j)
       ∙ part-at bytes (256 * getD order k 0) (min (getD (lensOf order cells) k 0) 256) (at - 2) (omega arith))
 
   past-key : 2 ≤ at → len ≤ at - 2
       → getD (entryBytes (entryAt (lent order cells bytes) k)) at 0 ≡ getD (lowFirst 8 (getD (framesOf order cells) k 0)) (at - 2 - len) 0
   past-key l j = past-length l
-      ∙ behind (part bytes (256 * getD order k 0) (min (getD (lensOf order cells) k 0) 256)) (lowFirst 8 (getD (framesOf order cells) k 0)) len (at - 2) key-length j
+      ∙ behind (part bytes (256 * getD order k 0) (min (getD (lensOf order cells) k 0) 256)) (lowFirst 8 (getD (framesOf order cells) k 0))
+      len (at - 2) key-length j
 
   pub byte-of-frame : {r f : ℕ} → 2 ≤ at → len ≤ at - 2 → at - 2 - len < 8 → f ≡ getD (framesOf order cells) k 0
       → r ≡ getD (lowFirst 8 f) (at - 2 - len) 0

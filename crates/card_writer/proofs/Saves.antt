@@ -34,8 +34,10 @@ module _ (m : Lent) (n : ℕ) (w : Whole m n) where
   unfolding sizeOf
   entry-size k h =
       let e : k + 1 - 1 ≡ k = omega arith in
-      let l : length (part (m .keys) (256 * getD (m .places) k 0) (lenAt m k)) ≡ lenAt m k = part-length (m .keys) (256 * getD (m .places) k 0) (lenAt m k) (omega (arith, w .bytes k h)) in
-      rw (ne-eqb (k + 1) 0 (omega arith), e) (entry-length (part (m .keys) (256 * getD (m .places) k 0) (lenAt m k)) (getD (m .frames) k 0) ∙ ap (λ (x : ℕ). 10 + x) l)
+      let l : length (part (m .keys) (256 * getD (m .places) k 0) (lenAt m k)) ≡ lenAt m k =
+      part-length (m .keys) (256 * getD (m .places) k 0) (lenAt m k) (omega (arith, w .bytes k h)) in
+      rw (ne-eqb (k + 1) 0 (omega arith), e) (entry-length (part (m .keys) (256 * getD (m .places) k 0) (lenAt m k)) (getD (m .frames) k 0)
+      ∙ ap (λ (x : ℕ). 10 + x) l)
 
   pub total-next : (sum i : ℕ) {size all : ℕ} → i < n → sum + bytesFrom m i (n - i) ≡ all → size ≡ sizeOf (m .lens) (i + 1)
       → sum + size + bytesFrom m (i + 1) (n - (i + 1)) ≡ all

@@ -109,17 +109,20 @@ module _ (order cells bytes : List ℕ) (n blocks : ℕ) (out₀ : List ℕ) (c 
       → restOf (lent order cells bytes) n c ≡ drop (504 * i) (unfilled (entriesAt (lent order cells bytes) 0 n))
       → out ≡ blocksOf i (streamOf (entriesAt (lent order cells bytes) 0 n)) ++ drop (512 * i) out₀
       → block ≡ blockOf i (front 504 (restOf (lent order cells bytes) n c))
-      → putMid (512 * i) (512 * i + 512 - 512 * i) out block ≡ blocksOf (i + 1) (streamOf (entriesAt (lent order cells bytes) 0 n)) ++ drop (512 * (i + 1)) out₀
+      → putMid (512 * i) (512 * i + 512 - 512 * i) out block ≡ blocksOf (i + 1) (streamOf (entriesAt (lent order cells bytes) 0 n)) ++ drop
+      (512 * (i + 1)) out₀
   write-more h l k e f g =
       let s : List ℕ = streamOf (entriesAt (lent order cells bytes) 0 n) in
-      image-more s out₀ blocks i h (omega arith) k f (g ∙ ap (blockOf i) (ap (front 504) e ∙ in-stream (entriesAt (lent order cells bytes) 0 n) i (omega arith)))
+      image-more s out₀ blocks i h (omega arith) k f
+      (g ∙ ap (blockOf i) (ap (front 504) e ∙ in-stream (entriesAt (lent order cells bytes) 0 n) i (omega arith)))
 
 -- all blocks
 pub write-none : (stream out : List ℕ) → out ≡ blocksOf 0 stream ++ drop (512 * 0) out
 unfolding blocksOf
 write-none stream out = refl
 
-module _ (order cells bytes : List ℕ) (n : ℕ) (c : Cursor) (i : ℕ) {d : Cursor} (w : Whole (lent order cells bytes) n) (q : Placed (lensOf order cells) n c) (f : d ≡ further (lensOf order cells) n 504 c) where
+module _ (order cells bytes : List ℕ) (n : ℕ) (c : Cursor) (i : ℕ) {d : Cursor} (w : Whole (lent order cells bytes) n)
+    (q : Placed (lensOf order cells) n c) (f : d ≡ further (lensOf order cells) n 504 c) where
   pub placed-on : Placed (lensOf order cells) n d
   placed-on = subst (λ (t : Cursor). Placed (lensOf order cells) n t) (sym f) (further-placed (lent order cells bytes) n w 504 c q)
 

@@ -42,4 +42,16 @@ module _ (a b : Bool) where
   pub and-so : {r q : Bool} → r ≡ a → r ≡ true → q ≡ b → q ≡ (a && b)
   and-so e f h = let g : a ≡ true = sym e ∙ f in rw g h
 
-pub ruleset edges = (needs, not-true, not-false, from-open, from-known, before-open, before-known, between-open, between-known, and-not, and-so)
+pub ruleset edges = (
+  needs,
+  not-true,
+  not-false,
+  from-open,
+  from-known,
+  before-open,
+  before-known,
+  between-open,
+  between-known,
+  and-not,
+  and-so,
+)

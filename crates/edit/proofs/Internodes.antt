@@ -38,7 +38,8 @@ module _ (m : List ℕ) (k : ℕ) where
       let d = part-part m (nodeStart k) 47 17 16 fits (omega arith) in
       cc)
 
-  pub node-put : (x : internode.Internode) {y : arena.Internode} {m' : List ℕ} → y ≡ record { n = x .n; ikeys = x .ikeys; children = x .children }
+  pub node-put : (x : internode.Internode) {y : arena.Internode} {m' : List ℕ}
+      → y ≡ record { n = x .n; ikeys = x .ikeys; children = x .children }
       → m' ≡ putInternode m k y → m' ≡ internodePut m k x
   unfolding internodePut
   node-put x e f = f ∙ ap (putInternode m k) e
@@ -69,9 +70,11 @@ module _ (x : internode.Internode) (ikey : ℕ) (whole : length (x .ikeys) ≡ 1
 
   pub place-none : (j : ℕ) → j ≤ 0 → AboveFrom x ikey j → 0 ≡ childPlace x ikey
   place-none j p f =
-      sym (last-none (λ k. leb k ikey) (take (x .n) (x .ikeys)) (λ i b. above-at i (omega (arith, used)) (f i (omega arith) (omega (arith, used)))))
+      sym (last-none (λ k. leb k ikey) (take (x .n) (x .ikeys))
+      (λ i b. above-at i (omega (arith, used)) (f i (omega arith) (omega (arith, used)))))
 
-pub place-down : (x : internode.Internode) (ikey j : ℕ) → 0 < j → AboveFrom x ikey j → ikey < getD (x .ikeys) (j - 1) 0 → AboveFrom x ikey (j - 1)
+pub place-down : (x : internode.Internode) (ikey j : ℕ) → 0 < j → AboveFrom x ikey j → ikey < getD (x .ikeys) (j - 1) 0
+    → AboveFrom x ikey (j - 1)
 place-down x ikey j p f h i l g =
     elim (ℕ-discrete i (j - 1)) [
       | yes q ↦ rw q h

@@ -150,7 +150,8 @@ module _ (m : Memory) where
             v,
             record {
               forest = forest;
-              counted = eqb→eq _ _ (and-right (nodesFree after && cellsFree after) (countRight after) w) ∙ seen-listed right v forest after a;
+              counted = eqb→eq _ _ (and-right (nodesFree after && cellsFree after) (countRight after) w)
+                  ∙ seen-listed right v forest after a;
             },
           )
 

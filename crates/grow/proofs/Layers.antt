@@ -39,7 +39,8 @@ module _ (m : List ℕ) (k : ℕ) (key : List ℕ) (links : ℕ) {leaf : Leaf} {
       → m1 ≡ putLeaf m k (leafWith (linkFor key links ∷ []))
   link-put i l = rw (f, l, i)
 
-  pub both-put : (cell : ℕ) (other : List ℕ) (others : ℕ) {a b : Entry} (two : List Entry) → a ≡ entryFor key cell links → b ≡ entryFor other others links
+  pub both-put : (cell : ℕ) (other : List ℕ) (others : ℕ) {a b : Entry} (two : List Entry) → a ≡ entryFor key cell links
+      → b ≡ entryFor other others links
       → take 2 two ≡ inOrder a b → leaf ≡ leafWith (take 2 (drop 0 two))
       → m1 ≡ bothPut m k (record { key = key; cell = cell }) (record { key = other; cell = others }) links
   both-put cell other others two ea eb t l = rw (f, l, t, ea, eb)
@@ -49,7 +50,8 @@ module _ (m : List ℕ) (k : ℕ) (key : List ℕ) (links : ℕ) {leaf : Leaf} {
 module _ (m : List ℕ) (count holder : ℕ) (key : List ℕ) (cell : ℕ) (other : List ℕ) (others links : ℕ) {k : ℕ} {m1 m2 : List ℕ}
     (ek : k ≡ freshNode m count) (e1 : m1 ≡ set m holder k) where
   module _ (e2 : m2 ≡ bothPut m1 k (record { key = key; cell = cell }) (record { key = other; cell = others }) links) where
-    pub layers-last : 31 ≤ links → m2 ≡ layersGrown (31 - links) m count holder (record { key = key; cell = cell }) (record { key = other; cell = others }) links
+    pub layers-last : 31 ≤ links → m2 ≡ layersGrown (31 - links) m count holder (record { key = key; cell = cell })
+        (record { key = other; cell = others }) links
     unfolding layersGrown
     layers-last l =
         let z : 31 - links ≡ 0 = omega arith in
@@ -63,8 +65,10 @@ module _ (m : List ℕ) (count holder : ℕ) (key : List ℕ) (cell : ℕ) (othe
         let y : bothGoOn key other links ≡ false = sym g ∙ n in
         rw (z, y, e2, e1, ek)
 
-  pub layers-on : links < 31 → {go : Bool} {m3 : List ℕ} → go ≡ bothGoOn key other links → go ≡ true → m2 ≡ putLeaf m1 k (leafWith (linkFor key links ∷ []))
-      → m3 ≡ layersGrown (31 - (links + 1)) m2 count (2 + k * 47 + 32) (record { key = key; cell = cell }) (record { key = other; cell = others }) (links + 1)
+  pub layers-on : links < 31 → {go : Bool} {m3 : List ℕ} → go ≡ bothGoOn key other links → go ≡ true
+      → m2 ≡ putLeaf m1 k (leafWith (linkFor key links ∷ []))
+      → m3 ≡ layersGrown (31 - (links + 1)) m2 count (2 + k * 47 + 32) (record { key = key; cell = cell })
+      (record { key = other; cell = others }) (links + 1)
       → m3 ≡ layersGrown (31 - links) m count holder (record { key = key; cell = cell }) (record { key = other; cell = others }) links
   unfolding layersGrown
   layers-on l g n e2 e3 =

@@ -94,7 +94,8 @@ module _ (m m′ : List ℕ) (k : ℕ) where
     pub leaf-still : T (leafRight m k) → T (leafRight m′ k)
     leaf-still t = leaf-same t .0
 
-    pub internode-same : T (internodeRight m k) → T (internodeRight m′ k) × ((ikeysAt m′ k ≡ ikeysAt m k) × (childrenAt m′ k ≡ childrenAt m k))
+    pub internode-same : T (internodeRight m k)
+        → T (internodeRight m′ k) × ((ikeysAt m′ k ≡ ikeysAt m k) × (childrenAt m′ k ≡ childrenAt m k))
     unfolding internodeRight ikeysAt childrenAt
     internode-same t =
         let n = countAt m k in

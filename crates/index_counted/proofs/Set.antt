@@ -45,7 +45,8 @@ module _ (m : Memory) (n : ℕ) (sound : Sound m) where
 
   node-kept : (k : ℕ) → k < nodesIn m → T (nodeSound (set (m .nodes) 1 n) k) × (nodeView (set (m .nodes) 1 n) k ≡ nodeView (m .nodes) k)
   node-kept k h =
-      node-same (m .nodes) (set (m .nodes) 1 n) k (omega (arith, whole)) (omega (arith, whole, as-long)) (words-same k) (sound .nodes-sound k h)
+      node-same (m .nodes) (set (m .nodes) 1 n) k (omega (arith, whole)) (omega (arith, whole, as-long)) (words-same k)
+      (sound .nodes-sound k h)
 
   pub set-sound : Sound (withCount m n)
   set-sound = record {
@@ -80,7 +81,8 @@ module _ (m : Memory) (v : Layers) (n : ℕ) (t : Forest m v) where
   pub count-set : Bytes (m .bytes) → (u : Layers) × Forest (withCount m n) u × (listing (withCount m n) u ≡ listing m v)
   count-set bytes =
       let s = sound-of m v t in
-      let (u, U, e) = from-trees (withCount m n) (set-sound m n s) (layerView 31 v) (set-tree m n s (layerView 31 v) (to-trees m v t bytes)) in (
+      let (u, U, e) = from-trees (withCount m n) (set-sound m n s) (layerView 31 v)
+      (set-tree m n s (layerView 31 v) (to-trees m v t bytes)) in (
         u,
         U,
         listing-view (withCount m n) u U ∙ ap (layerListing 31 (cellsView m)) e ∙ sym (listing-view m v t),

@@ -22,7 +22,8 @@ module _ (m : List ℕ) (count holder root : ℕ) (e : Entry) {height : ℕ} {m1
   pub layer-one : g ≡ One → m1 ≡ layerGrown m count holder root e
   layer-one q = sym (grown ∙ ap (λ (x : Grown). rootGrown count holder root (m1, x)) q)
 
-  pub layer-two : {ikey node top : ℕ} {x : Internode} {m2 m3 : List ℕ} → g ≡ Two ikey node → top ≡ freshNode m1 count → x ≡ overTwo root ikey node
+  pub layer-two : {ikey node top : ℕ} {x : Internode} {m2 m3 : List ℕ} → g ≡ Two ikey node → top ≡ freshNode m1 count
+      → x ≡ overTwo root ikey node
       → m2 ≡ internodePut m1 top x → m3 ≡ set m2 holder top → m3 ≡ layerGrown m count holder root e
   layer-two q t o e2 e3 = rw (e3, e2, o, t) (sym (grown ∙ ap (λ (y : Grown). rootGrown count holder root (m1, y)) q))
 

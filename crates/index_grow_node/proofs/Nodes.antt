@@ -42,12 +42,14 @@ module _ (m : List ℕ) (count height n : ℕ) (e : Entry) {m1 : List ℕ} {g : 
   unfolding nodeGrown
   node-leaf z f = rw (z, lt-ltb n count l) f
 
-  module _ (z : height ≡ 0 → ⊥) {child : ℕ} (d : child ≡ childFor m n (e .ikey)) (f : (m1, g) ≡ nodeGrown m count (height - 1) child e) where
+  module _ (z : height ≡ 0 → ⊥) {child : ℕ} (d : child ≡ childFor m n (e .ikey))
+      (f : (m1, g) ≡ nodeGrown m count (height - 1) child e) where
     above : nodeGrown m count height n e ≡ parentGrown count n (m1, g)
     unfolding nodeGrown
     above =
         let y : height ≡ suc (height - 1) = omega arith in
-        let x : nodeGrown m count (suc (height - 1)) n e ≡ parentGrown count n (nodeGrown m count (height - 1) (childFor m n (e .ikey)) e) = rw (lt-ltb n count l) in
+        let x : nodeGrown m count (suc (height - 1)) n e ≡ parentGrown count n
+        (nodeGrown m count (height - 1) (childFor m n (e .ikey)) e) = rw (lt-ltb n count l) in
         ap (λ (h : ℕ). nodeGrown m count h n e) y ∙ x
         ∙ ap (parentGrown count n) (ap (λ (i : ℕ). nodeGrown m count (height - 1) i e) (sym d) ∙ sym f)
 

@@ -7,7 +7,8 @@ use native.Mathlib.Decide.{ℕ-discrete}
 use native.Mathlib.Numerals.{add-one}
 use native.Mathlib.Omega.{arith}
 use lib.ListN.{List·getD-append, length, getD, set, take, drop, replicate, length-append, length-map, length-drop}
-use lib.Seq.{length-take-le, getD-take, getD-drop, getD-append-add, getD-at, getD-set-same, getD-set-other, take-suc, set-at, append-snoc, ext-getD}
+use lib.Seq.{length-take-le, getD-take, getD-drop, getD-append-add, getD-at, getD-set-same, getD-set-other, take-suc, set-at, append-snoc}
+use lib.Seq.{ext-getD}
 use borrow.Author.Count.{below-more}
 use borrow.Author.Needs.{needs}
 use Rattle.bank.specs.Bank.{slotAt}
@@ -28,7 +29,8 @@ use Rattle.model.specs.Leaves.{leafWith, fifteenAt}
 
 module _ (nodes : List ℕ) (k word : ℕ) {size : ℕ} (w : word ≡ wordAt nodes k 1) (z : size ≡ word % 16) where
   module _ (e : Entry) (i : ℕ) (f : (j : ℕ) → j < i → less e (getD (entriesAt nodes k) j none) ≡ false) where
-    module _ {slot : ℕ} {d : Entry} {r : Bool} (l : i < size) (es : slot ≡ slotAt i (slotsOf word)) (ed : d ≡ entryAt nodes k slot) (er : r ≡ less e d) where
+    module _ {slot : ℕ} {d : Entry} {r : Bool} (l : i < size) (es : slot ≡ slotAt i (slotsOf word)) (ed : d ≡ entryAt nodes k slot)
+        (er : r ≡ less e d) where
       here : less e (getD (entriesAt nodes k) i none) ≡ r
       here = ap (less e) (entry-here nodes k word w i (omega arith) es ∙ sym ed) ∙ sym er
 
@@ -55,11 +57,13 @@ module _ (f : Entry → ℕ) (es : List Entry) (from : ℕ) where
   unfolding column
   column-none = refl
 
-  pub column-more : (i : ℕ) → i < 15 → from + i < length es → set (column f es from i) i (f (getD es (from + i) none)) ≡ column f es from (i + 1)
+  pub column-more : (i : ℕ) → i < 15 → from + i < length es
+      → set (column f es from i) i (f (getD es (from + i) none)) ≡ column f es from (i + 1)
   unfolding column
   column-more i l h =
       let z : 15 - i ≡ suc (15 - (i + 1)) = omega arith in
-      let long : length (map f (take i (drop from es))) ≡ i = length-map (take i (drop from es)) f ∙ length-take-le i (drop from es) (let y : i ≤ length (drop from es) = rw length-drop (omega arith) in y) in
+      let long : length (map f (take i (drop from es))) ≡ i = length-map (take i (drop from es)) f
+      ∙ length-take-le i (drop from es) (let y : i ≤ length (drop from es) = rw length-drop (omega arith) in y) in
       let t : take (i + 1) (drop from es) ≡ take i (drop from es) ++ (getD es (from + i) none ∷ []) =
       ap (λ (n : ℕ). take n (drop from es)) (add-one i)
       ∙ take-suc (drop from es) i none (let y : i < length (drop from es) = rw length-drop (omega arith) in y)
@@ -73,7 +77,8 @@ module _ (es : List Entry) (from n i : ℕ) {a : List ℕ} (long : length es ≡
   pub ikeys-more : a ≡ column (λ e. e .ikey) es from i → set a i (getD es (from + i) none .ikey) ≡ column (λ e. e .ikey) es from (i + 1)
   ikeys-more q = rw q (column-more (λ e. e .ikey) es from i (omega arith) (omega arith))
 
-  pub classes-more : a ≡ column (λ e. e .class) es from i → set a i (getD es (from + i) none .class) ≡ column (λ e. e .class) es from (i + 1)
+  pub classes-more : a ≡ column (λ e. e .class) es from i
+      → set a i (getD es (from + i) none .class) ≡ column (λ e. e .class) es from (i + 1)
   classes-more q = rw q (column-more (λ e. e .class) es from i (omega arith) (omega arith))
 
   pub refs-more : a ≡ column (λ e. e .at) es from i → set a i (getD es (from + i) none .at) ≡ column (λ e. e .at) es from (i + 1)
@@ -86,7 +91,8 @@ pub leaf-made : (es : List Entry) (from n i : ℕ) {word : ℕ} {a b d : List �
 unfolding column leafWith
 leaf-made es from n i h l p q ea eb ed ew =
     let z : i ≡ n = omega arith in
-    let y : length (take n (drop from es)) ≡ n = length-take-le n (drop from es) (let x : n ≤ length (drop from es) = rw length-drop (omega arith) in x) in
+    let y : length (take n (drop from es)) ≡ n =
+    length-take-le n (drop from es) (let x : n ≤ length (drop from es) = rw length-drop (omega arith) in x) in
     rw (y, ea, eb, ed, ew, z)
 
 -- ---- sixteen entries
@@ -101,10 +107,12 @@ module _ (nodes : List ℕ) (k p : ℕ) (e : Entry) (few : p ≤ 15) where
   unfolding fifteenAt
   fifteen = length-map (slotsOf (wordAt nodes k 1) .slots) (entryAt nodes k) ∙ length-nibbles 15 (wordAt nodes k 1 / 16)
 
-  fifteen-at : (i : ℕ) {word slot : ℕ} → word ≡ wordAt nodes k 1 → i < 15 → slot ≡ slotAt i (slotsOf word) → getD (fifteenAt nodes k) i none ≡ entryAt nodes k slot
+  fifteen-at : (i : ℕ) {word slot : ℕ} → word ≡ wordAt nodes k 1 → i < 15 → slot ≡ slotAt i (slotsOf word)
+      → getD (fifteenAt nodes k) i none ≡ entryAt nodes k slot
   unfolding fifteenAt
   fifteen-at i {word} {slot} w l s =
-      getD-map (entryAt nodes k) (slotsOf (wordAt nodes k 1) .slots) i 0 none (let z : i < length (slotsOf (wordAt nodes k 1) .slots) = rw length-nibbles l in z)
+      getD-map (entryAt nodes k) (slotsOf (wordAt nodes k 1) .slots) i 0 none
+      (let z : i < length (slotsOf (wordAt nodes k 1) .slots) = rw length-nibbles l in z)
       ∙ ap (entryAt nodes k) (sym (s ∙ ap (λ (x : ℕ). slotAt i (slotsOf x)) w))
 
   front : length (take p (fifteenAt nodes k)) ≡ p
@@ -137,13 +145,15 @@ module _ (nodes : List ℕ) (k p : ℕ) (e : Entry) (few : p ≤ 15) where
   here-at i l h =
       sym (getD-at (take p (fifteenAt nodes k)) e (drop p (fifteenAt nodes k)) none i (front ∙ (let z : p ≡ i = omega arith in z)))
 
-  pub sixteen-done : (i : ℕ) {all : List Entry} → length all ≡ 16 → 16 ≤ i → ((j : ℕ) → j < i → getD all j none ≡ getD (with-one nodes k p e) j none)
+  pub sixteen-done : (i : ℕ) {all : List Entry} → length all ≡ 16 → 16 ≤ i
+      → ((j : ℕ) → j < i → getD all j none ≡ getD (with-one nodes k p e) j none)
       → all ≡ take p (fifteenAt nodes k) ++ e ∷ drop p (fifteenAt nodes k)
   unfolding with-one
   sixteen-done i h l f = ext-getD none _ _ (h ∙ sym sixteen-long) (λ j m. f j (omega arith))
 
 -- one place more agrees
-pub agree-more : (all es : List Entry) (i : ℕ) (d : Entry) → length all ≡ 16 → i < 16 → ((j : ℕ) → j < i → getD all j none ≡ getD es j none) → d ≡ getD es i none
+pub agree-more : (all es : List Entry) (i : ℕ) (d : Entry) → length all ≡ 16 → i < 16
+    → ((j : ℕ) → j < i → getD all j none ≡ getD es j none) → d ≡ getD es i none
     → (j : ℕ) → j < i + 1 → getD (set all i d) j none ≡ getD es j none
 agree-more all es i d w l f q j h =
     elim (ℕ-discrete j i) [

@@ -64,7 +64,8 @@ module _ (below : ℕ → List ℕ) (nodes : List ℕ) (height n : ℕ) (p : Row
   list-leaf h e = rw h e
 
   pub list-start : (height ≡ 0 → ⊥)
-      → notedAll p (flattened (cellsOfNode below nodes (height - 1)) (drop 0 (childrenAt nodes n))) ≡ notedAll p (cellsOfNode below nodes height n)
+      → notedAll p (flattened (cellsOfNode below nodes (height - 1)) (drop 0 (childrenAt nodes n))) ≡ notedAll p
+      (cellsOfNode below nodes height n)
   unfolding cellsOfNode
   list-start h = sym (ap (λ (m : ℕ). notedAll p (cellsOfNode below nodes m n)) (let z : height ≡ suc (height - 1) = omega arith in z))
 
@@ -135,4 +136,19 @@ pub layer-down : (nodes : List ℕ) (l root : ℕ) (p : Row) {height : ℕ} → 
 layer-down nodes l root p eh er =
     er ∙ ap (λ (h : ℕ). notedAll p (cellsOfNode (layersBelow l nodes) nodes h root)) eh ∙ ap (notedAll p) (layer-one l nodes root)
 
-pub ruleset notes = (downs, child-room, child-counted, list-leaf, list-start, list-next, list-last, leaf-start, leaf-next, leaf-last, entry-last, entry-down, entry-cell, layer-down)
+pub ruleset notes = (
+  downs,
+  child-room,
+  child-counted,
+  list-leaf,
+  list-start,
+  list-next,
+  list-last,
+  leaf-start,
+  leaf-next,
+  leaf-last,
+  entry-last,
+  entry-down,
+  entry-cell,
+  layer-down,
+)

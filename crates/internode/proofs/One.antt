@@ -59,10 +59,12 @@ node-one x y a b e =
     rest = ap (λ (l : List ℕ). drop 1 l) e
 
     keys : x .ikeys ≡ y .ikeys
-    keys = sym (take-at (x .ikeys) (x .children) 15 (a .ikeys-15)) ∙ ap (λ (l : List ℕ). take 15 l) rest ∙ take-at (y .ikeys) (y .children) 15 (b .ikeys-15)
+    keys = sym (take-at (x .ikeys) (x .children) 15 (a .ikeys-15)) ∙ ap (λ (l : List ℕ). take 15 l) rest
+        ∙ take-at (y .ikeys) (y .children) 15 (b .ikeys-15)
 
     kids : x .children ≡ y .children
-    kids = sym (drop-at (x .ikeys) (x .children) 15 (a .ikeys-15)) ∙ ap (λ (l : List ℕ). drop 15 l) rest ∙ drop-at (y .ikeys) (y .children) 15 (b .ikeys-15)
+    kids = sym (drop-at (x .ikeys) (x .children) 15 (a .ikeys-15)) ∙ ap (λ (l : List ℕ). drop 15 l) rest
+        ∙ drop-at (y .ikeys) (y .children) 15 (b .ikeys-15)
 
 pub inserted-one : (a b : Inserted) → Whole (a .node) → Whole (b .node) → saidInserted a ≡ saidInserted b → a ≡ b
 inserted-one a b u v e =

@@ -53,7 +53,8 @@ pub moved-zeros : (p k v : ℕ) (xs : List ℕ) → p ≤ length xs → 0 < k
     → insertedAmong p (length xs) v (xs ++ replicate k 0) ≡ insertedAt p v xs ++ replicate (k - 1) 0
 unfolding insertedAmong
 moved-zeros p k v xs h z =
-    ap₂ (λ (l r : List ℕ). insertedAt p v l ++ r) (take-append-seam xs (replicate k 0)) (drop-append-add xs (replicate k 0) 1 ∙ drop-zeros 1 k)
+    ap₂ (λ (l r : List ℕ). insertedAt p v l ++ r) (take-append-seam xs (replicate k 0))
+    (drop-append-add xs (replicate k 0) 1 ∙ drop-zeros 1 k)
 
 -- so many from a place on, before zeros: the copy into an empty array
 pub paste-zeros : (w from count : ℕ) (xs : List ℕ) → from + count ≤ length xs
@@ -68,7 +69,8 @@ pub paste-first : (w from count : ℕ) (xs : List ℕ) → from + count < length
     → paste (set (replicate (suc w) 0) 0 (getD xs from 0)) (0 + 1) (drop (from + 1) xs) count
     ≡ take (count + 1) (drop from xs) ++ replicate (suc w - length (take (count + 1) (drop from xs))) 0
 paste-first w from count xs h =
-    let e : length (take (count + 1) (drop from xs)) ≡ count + 1 = length-take-le (count + 1) (drop from xs) (simp length-drop (omega arith)) in
+    let e : length (take (count + 1) (drop from xs)) ≡ count + 1 =
+    length-take-le (count + 1) (drop from xs) (simp length-drop (omega arith)) in
     let z : suc w - (count + 1) ≡ w - count = omega arith in
     let o : 0 + 1 + count ≡ suc count = omega arith in
     rw (e, z, o, add-one count, add-one from, drop-cons xs from 0 (omega arith))

@@ -13,7 +13,8 @@ use Rattle.internode_inserts.specs.Insert.{insertedAmong}
 use Rattle.internode_inserts.specs.Insert.{inserted}
 use Rattle.internode_inserts.specs.Split.{shifted, nodeOf, splitOf}
 use Rattle.internode_places.proofs.Inserts.{inserted-length, inserted-before, inserted-here, inserted-after}
-use Rattle.internode_inserts.proofs.Parts.{take-inserted-low, take-inserted-high, drop-inserted-low, drop-inserted-high, moved-zeros, paste-zeros, paste-first}
+use Rattle.internode_inserts.proofs.Parts.{take-inserted-low, take-inserted-high, drop-inserted-low, drop-inserted-high, moved-zeros}
+use Rattle.internode_inserts.proofs.Parts.{paste-zeros, paste-first}
 
 -- ---- a part of a node, copied into an empty one
 
@@ -50,7 +51,8 @@ node-inserted ks cs p ikey child h e l =
     kids : insertedAmong (p + 1) (length ks + 1) child (cs ++ replicate (16 - length cs) 0)
         ≡ insertedAt (p + 1) child cs ++ replicate (16 - length (insertedAt (p + 1) child cs)) 0
     kids =
-        let z : 16 - length cs - 1 ≡ 16 - length (insertedAt (p + 1) child cs) = omega (arith, inserted-length (p + 1) child cs (omega arith)) in
+        let z : 16 - length cs - 1 ≡ 16 - length (insertedAt (p + 1) child cs) =
+        omega (arith, inserted-length (p + 1) child cs (omega arith)) in
         ap (λ (k : ℕ). insertedAmong (p + 1) k child (cs ++ replicate (16 - length cs) 0)) (sym e)
         ∙ moved-zeros (p + 1) (16 - length cs) child cs (omega arith) (omega arith)
         ∙ ap (λ (k : ℕ). insertedAt (p + 1) child cs ++ replicate k 0) z
@@ -141,4 +143,5 @@ module _ (x : Internode) (p ikey child : ℕ) (k : length (x .ikeys) ≡ 15) (c 
         (sym (take-inserted-high p 8 ikey (x .ikeys) (omega arith) (omega arith)))
         (sym (take-inserted-high (p + 1) 9 child (x .children) (omega arith) (omega arith))))
         (sym (inserted-here p ikey (x .ikeys) (omega arith)) ∙ ap (λ (q : ℕ). getD (insertedAt p ikey (x .ikeys)) q 0) e)
-        (ap (λ (y : Internode). with-first y) f ∙ ap₂ (λ (a b : List ℕ). with-first (nodeOf a b)) keys old ∙ ap (λ (b : List ℕ). nodeOf (drop 9 (insertedAt p ikey (x .ikeys))) b) new)
+        (ap (λ (y : Internode). with-first y) f ∙ ap₂ (λ (a b : List ℕ). with-first (nodeOf a b)) keys old
+        ∙ ap (λ (b : List ℕ). nodeOf (drop 9 (insertedAt p ikey (x .ikeys))) b) new)

@@ -82,9 +82,11 @@ module _ (p v : ℕ) (ks : List ℕ) (h : p ≤ length ks) where
                 | yes e ↦
                     let d : p - 1 ≡ j = omega arith in
                     rw (e, inserted-before p v ks h j a, inserted-here p v ks h) (subst (λ (k : ℕ). getD ks k 0 < v) d (low (omega arith)))
-                | no e ↦ rw (inserted-before p v ks h j a, inserted-before p v ks h (suc j) (omega arith)) (rising-next ks t j (omega arith))
+                | no e ↦ rw (inserted-before p v ks h j a, inserted-before p v ks h (suc j) (omega arith))
+                    (rising-next ks t j (omega arith))
               ]
 
           late : (j : ℕ) → p < j → j < length ks → getD (insertedAt p v ks) j 0 < getD (insertedAt p v ks) (suc j) 0
           late zero a b = absurd (omega arith)
-          late (suc j) a b = rw (inserted-after p v ks h j (omega arith), inserted-after p v ks h (suc j) (omega arith)) (rising-next ks t j b)
+          late (suc j) a b = rw (inserted-after p v ks h j (omega arith), inserted-after p v ks h (suc j) (omega arith))
+              (rising-next ks t j b)

@@ -74,7 +74,8 @@ module _ (x : Internode) (w : length (x .ikeys) ≡ 15) where
       (is-false (rising (keysOf x))
       (λ t.
       let e : suc (i - 1) ≡ i = omega arith in
-      let a : getD (keysOf x) (i - 1) 0 < getD (keysOf x) (suc (i - 1)) 0 = rising-next (keysOf x) t (i - 1) (omega (arith, keys-length h)) in
+      let a : getD (keysOf x) (i - 1) 0 < getD (keysOf x) (suc (i - 1)) 0 =
+      rising-next (keysOf x) t (i - 1) (omega (arith, keys-length h)) in
       let b = rw (e) at a in
       omega (arith, b, key-here {i = i} l, key-here {i = i - 1} (omega arith)))))
 
@@ -160,7 +161,8 @@ module _ (x : Internode) (w : length (x .ikeys) ≡ 15) where
 
     pub fits-first : RightFits → p ≡ 0 → true ≡ rising (insertedAt p ikey (keysOf x))
     fits-first r z =
-        sym (is-true (rising (insertedAt p ikey (keysOf x))) (insert-between p ikey (keysOf x) room (good-rising x g) (λ o. absurd (omega arith)) (right r)))
+        sym (is-true (rising (insertedAt p ikey (keysOf x)))
+        (insert-between p ikey (keysOf x) room (good-rising x g) (λ o. absurd (omega arith)) (right r)))
 
     pub fits-left : RightFits → (p ≡ 0 → ⊥) → ltb (getD (x .ikeys) (p - 1) 0) ikey ≡ rising (insertedAt p ikey (keysOf x))
     fits-left r z =
@@ -169,7 +171,8 @@ module _ (x : Internode) (w : length (x .ikeys) ≡ 15) where
         elim (decLt (getD (x .ikeys) (p - 1) 0) ikey) [
           | yes a ↦
               lt-ltb (getD (x .ikeys) (p - 1) 0) ikey a
-              ∙ sym (is-true (rising (insertedAt p ikey (keysOf x))) (insert-between p ikey (keysOf x) room (good-rising x g) (λ q. rw e a) (right r)))
+              ∙ sym (is-true (rising (insertedAt p ikey (keysOf x)))
+              (insert-between p ikey (keysOf x) room (good-rising x g) (λ q. rw e a) (right r)))
           | no a ↦
               le-ltb (getD (x .ikeys) (p - 1) 0) ikey (omega arith) ∙ sym (insert-low p ikey (keysOf x) room o (rw e (omega arith)))
         ]

@@ -49,7 +49,8 @@ module _ (target : ℕ) (ks : List ℕ) where
   last-is-first t =
       last-parts (λ k. leb k target) ks firstAbove (first-most (λ k. ltb target k) ks)
       (λ k l. le-leb (getD ks k 0) target (ltb-false target (getD ks k 0) (first-before (λ k. ltb target k) ks k l)))
-      (λ k l m. lt-leb (getD ks k 0) target (from k l m (ltb-true target (getD ks firstAbove 0) (first-at (λ k. ltb target k) ks (omega arith)))))
+      (λ k l m. lt-leb (getD ks k 0) target (from k l m
+      (ltb-true target (getD ks firstAbove 0) (first-at (λ k. ltb target k) ks (omega arith)))))
     where
       from : (k : ℕ) → firstAbove ≤ k → k < length ks → target < getD ks firstAbove 0 → target < getD ks k 0
       from k l m a =
@@ -92,7 +93,8 @@ module _ (x : Internode) (target : ℕ) where
     child-right k l m =
         let e : length (keysOf x) ≡ x .n = length-take-le (x .n) (x .ikeys) (omega (arith, w .ikeys-15)) in
         let a : target < getD (keysOf x) (first (λ k. ltb target k) (keysOf x)) 0
-        = ltb-true target (getD (keysOf x) (first (λ k. ltb target k) (keysOf x)) 0) (first-at (λ k. ltb target k) (keysOf x) (omega (arith, place))) in
+        = ltb-true target (getD (keysOf x) (first (λ k. ltb target k) (keysOf x)) 0)
+        (first-at (λ k. ltb target k) (keysOf x) (omega (arith, place))) in
         rw (getD-take (x .n) (x .ikeys) k 0 m) at (from a e)
       where
         from : target < getD (keysOf x) (first (λ k. ltb target k) (keysOf x)) 0 → length (keysOf x) ≡ x .n → target < getD (keysOf x) k 0

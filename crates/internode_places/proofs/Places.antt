@@ -37,7 +37,8 @@ module _ (test : ℕ → Bool) where
   first-before [] k h = absurd (not-suc-le-zero h)
   first-before (x ∷ ks) k h = by (first-before ks) (test x) refl k h
     where
-      by : ((j : ℕ) → j < first test ks → test (getD ks j 0) ≡ false) → (b : Bool) → test x ≡ b → (j : ℕ) → j < hereOrLater b (first test ks) → test (getD (x ∷ ks) j 0) ≡ false
+      by : ((j : ℕ) → j < first test ks → test (getD ks j 0) ≡ false) → (b : Bool) → test x ≡ b → (j : ℕ)
+          → j < hereOrLater b (first test ks) → test (getD (x ∷ ks) j 0) ≡ false
       by later true e j l = absurd (not-suc-le-zero l)
       by later false e zero l = e
       by later false e (suc j) l = later j (omega arith)
@@ -47,7 +48,8 @@ module _ (test : ℕ → Bool) where
   first-at [] h = absurd (not-suc-le-zero h)
   first-at (x ∷ ks) h = by (first-at ks) (test x) refl h
     where
-      by : (first test ks < length ks → test (getD ks (first test ks) 0) ≡ true) → (b : Bool) → test x ≡ b → hereOrLater b (first test ks) < suc (length ks)
+      by : (first test ks < length ks → test (getD ks (first test ks) 0) ≡ true) → (b : Bool) → test x ≡ b
+          → hereOrLater b (first test ks) < suc (length ks)
           → test (getD (x ∷ ks) (hereOrLater b (first test ks)) 0) ≡ true
       by later true e l = e
       by later false e l = later (omega arith)

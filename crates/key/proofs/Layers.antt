@@ -17,10 +17,17 @@ use Rattle.key.specs.Layers.{byLayers, comparedByLayers, further, isEqua
 use Rattle.key_layer.proofs.Fitting.{and-true}
 
 -- the numbers of a layer that there is fit
-at-layer-fits : (bytes : List ℕ) (s : ℕ) → length bytes ≤ 256 → reached bytes s ≡ true → fits bytes (ikeyAt bytes (8 * s)) s (suffixAt bytes s) ≡ true
+at-layer-fits : (bytes : List ℕ) (s : ℕ) → length bytes ≤ 256 → reached bytes s ≡ true
+    → fits bytes (ikeyAt bytes (8 * s)) s (suffixAt bytes s) ≡ true
 unfolding fits
 at-layer-fits bytes s h r =
-    rw (le-leb (length bytes) 256 h, r, eq-eqb (ikeyAt bytes (8 * s)) (ikeyAt bytes (8 * s)) refl, eq-eqb (suffixAt bytes s) (suffixAt bytes s) refl)
+    rw (
+      le-leb (length bytes) 256 h,
+      r,
+      eq-eqb (ikeyAt bytes (8 * s)) (ikeyAt bytes (8 * s)) refl,
+      eq-eqb (suffixAt bytes s)
+          (suffixAt bytes s) refl,
+    )
 
 -- a key that has a suffix has a next layer
 next-reached : (bytes : List ℕ) (s : ℕ) → hasSuffix bytes s ≡ true → reached bytes (s + 1) ≡ true
@@ -70,7 +77,8 @@ module _ (a b : List ℕ) (ha : length a ≤ 256) (hb : length b ≤ 256) where
     where
       go : (hasSuffix a s ≡ true) × (hasSuffix b s ≡ true)
           → (reached a (s + 1) ≡ true → reached b (s + 1) ≡ true
-          → byLayers n a b (accepted (numbersAt a (s + 1))) (accepted (numbersAt b (s + 1))) ≡ accepted (place (layered n a b (8 * (s + 1))) ∷ []))
+          → byLayers n a b (accepted (numbersAt a (s + 1))) (accepted (numbersAt b (s + 1))) ≡ accepted
+          (place (layered n a b (8 * (s + 1))) ∷ []))
           → byLayers n a b (further a (accepted (numbersAt a s))) (further b (accepted (numbersAt b s)))
           ≡ accepted (place (layered n a b (8 * s + 8)) ∷ [])
       go (p, q) ih =

@@ -43,7 +43,8 @@ module _ (bytes : List ℕ) (i s p : ℕ) {r : Bool} (e : r ≡ fits bytes i s p
   number-unfit q h = rw (← e, q) h
 
 module _ (bytes : List ℕ) (i s p : ℕ) {x : Answer} where
-  pub unfit-then : {r : Bool} → r ≡ fits bytes i s p → (vs : List ℕ) → r ≡ false → x ≡ refused Key (i ∷ s ∷ p ∷ []) → x ≡ asked bytes i s p vs
+  pub unfit-then : {r : Bool} → r ≡ fits bytes i s p → (vs : List ℕ) → r ≡ false → x ≡ refused Key (i ∷ s ∷ p ∷ [])
+      → x ≡ asked bytes i s p vs
   unfolding asked
   unfit-then e vs q u = rw (← e, q) u
 
@@ -53,14 +54,17 @@ module _ (bytes : List ℕ) (i s p : ℕ) {x : Answer} where
   pub below-then : (k : ℕ) {m n : ℕ} → x ≡ asked bytes i s p (truth (ltb k m) ∷ []) → m ≡ n → x ≡ asked bytes i s p (truth (ltb k n) ∷ [])
   below-then k h e = rw e at h
 
-  pub layer-then : {o : Ordering} (k m : ℕ) {n : ℕ} → x ≡ asked bytes i s p (place o ∷ []) → o ≡ atLayer i (classOf n) k (classOf m) → n ≡ length bytes - 8 * s
+  pub layer-then : {o : Ordering} (k m : ℕ) {n : ℕ} → x ≡ asked bytes i s p (place o ∷ []) → o ≡ atLayer i (classOf n) k (classOf m)
+      → n ≡ length bytes - 8 * s
       → x ≡ asked bytes i s p (place (atLayer i (classAt bytes (8 * s)) k (classOf m)) ∷ [])
-  layer-then k m h u w = h ∙ ap (λ (y : Ordering). asked bytes i s p (place y ∷ [])) (u ∙ ap (λ (y : ℕ). atLayer i (classOf y) k (classOf m)) w)
+  layer-then k m h u w = h ∙ ap (λ (y : Ordering). asked bytes i s p (place y ∷ []))
+      (u ∙ ap (λ (y : ℕ). atLayer i (classOf y) k (classOf m)) w)
 
   pub suffix-then : {o : Ordering} {part : List ℕ} (other : List ℕ) → x ≡ asked bytes i s p (place o ∷ []) → o ≡ bytewise part other
       → part ≡ drop (suffixFrom bytes i s p) bytes → x ≡ asked bytes i s p (place (bytewise (drop p bytes) other) ∷ [])
   unfolding asked suffixFrom
-  suffix-then other h u w = h ∙ ap (λ (y : Ordering). asked bytes i s p (place y ∷ [])) (u ∙ ap (λ (y : List ℕ). bytewise y other) w) ∙ go (fits bytes i s p)
+  suffix-then other h u w = h ∙ ap (λ (y : Ordering). asked bytes i s p (place y ∷ [])) (u ∙ ap (λ (y : List ℕ). bytewise y other) w)
+      ∙ go (fits bytes i s p)
     where
       go : (t : Bool) → answered ((7 unless t) ∷ []) (place (bytewise (drop (cond t p (length bytes)) bytes) other) ∷ []) (i ∷ s ∷ p ∷ [])
           ≡ answered ((7 unless t) ∷ []) (place (bytewise (drop p bytes) other) ∷ []) (i ∷ s ∷ p ∷ [])
@@ -104,7 +108,8 @@ module _ (bytes : List ℕ) (i s p : ℕ) {r : Bool} (e : r ≡ fits bytes i s p
     pub moved-first : (k m : ℕ) → m ≤ k → x ≡ moved bytes i s p (ltb k m) to
     moved-first k m h = moved-over k {m = m} refl h
 
-module _ (bytes : List ℕ) (i s p : ℕ) {r : Bool} (e : r ≡ fits bytes i s p) (q : r ≡ true) (to : ℕ) {us : List ℕ} (u : us ≡ numbersAt bytes to) where
+module _ (bytes : List ℕ) (i s p : ℕ) {r : Bool} (e : r ≡ fits bytes i s p) (q : r ≡ true) (to : ℕ) {us : List ℕ}
+    (u : us ≡ numbersAt bytes to) where
   pub moved-at : (allowed : Bool) {a : Bool} → a ≡ allowed → a ≡ true → accepted us ≡ moved bytes i s p allowed to
   unfolding moved
   moved-at allowed f h = rw (← e, q, ← f, h, u)

@@ -151,6 +151,7 @@ module _ (es : List Entry) (r : rising es ≡ true) (c : ℕ) where
       let hi = ikeys-rise es r c j u m in
       elim (ℕ-discrete (ikeyOf es (c - 1)) (ikeyOf es c)) [
         | yes e ↦
-            absurd (T-not (eqb (ikeyOf es (c - 1)) (ikeyOf es c)) (k .between) (subst (λ (x : ℕ). T (eqb (ikeyOf es (c - 1)) x)) e (eqb-refl (ikeyOf es (c - 1)))))
+            absurd (T-not (eqb (ikeyOf es (c - 1)) (ikeyOf es c)) (k .between)
+            (subst (λ (x : ℕ). T (eqb (ikeyOf es (c - 1)) x)) e (eqb-refl (ikeyOf es (c - 1)))))
         | no e ↦ omega arith
       ]

@@ -50,7 +50,14 @@ fit-removed i b f p =
 
 fit-sorted : (n : ℕ) → n ≤ 15 → Fit 15 (sorted 15 n)
 fit-sorted n h =
-    record { least = omega arith; most = omega arith; wide = sorted-width 15 n h; sized = rw (sorted-size 15 n h) h; once = sorted-once 15 n h }
+    record {
+      least = omega arith;
+      most = omega arith;
+      wide = sorted-width 15 n h;
+      sized = rw (sorted-size 15 n h) h;
+      once =
+          sorted-once 15 n h;
+    }
 
 -- ---- an insertion
 
@@ -77,9 +84,11 @@ module _ (word i : ℕ) where
   put-told : (next slot : ℕ) (told : List ℕ) → changed 15 word (insertFromBack i) ≡ accepted (next ∷ slot ∷ told) → Put next slot
   unfolding changedIn
   put-told next slot told =
-      by (validWord 15 word) refl (leb i (word % 16)) (leb-true i (word % 16)) (ltb (word % 16) (width (slotsOf word))) (ltb-true (word % 16) (width (slotsOf word)))
+      by (validWord 15 word) refl (leb i (word % 16)) (leb-true i (word % 16)) (ltb (word % 16) (width (slotsOf word)))
+      (ltb-true (word % 16) (width (slotsOf word)))
     where
-      by : (p : Bool) → validWord 15 word ≡ p → (q : Bool) → (q ≡ true → i ≤ word % 16) → (r : Bool) → (r ≡ true → word % 16 < width (slotsOf word))
+      by : (p : Bool) → validWord 15 word ≡ p → (q : Bool) → (q ≡ true → i ≤ word % 16) → (r : Bool)
+          → (r ≡ true → word % 16 < width (slotsOf word))
           → cond p
           (cond q
           (cond r
@@ -103,23 +112,28 @@ module _ (word i : ℕ) where
 
   module _ {next slot : ℕ} {told : List ℕ} (e : changed 15 word (insertFromBack i) ≡ accepted (next ∷ slot ∷ told)) where
     put-fit : Fit 15 (insertedFromBack i (slotsOf word))
-    put-fit = let p = put-told next slot told e in fit-inserted 15 i (slotsOf word) (fit-slots word (p .word-valid)) (p .place) (omega (arith, p .room, wide word))
+    put-fit = let p = put-told next slot told e in
+        fit-inserted 15 i (slotsOf word) (fit-slots word (p .word-valid)) (p .place) (omega (arith, p .room, wide word))
 
     -- An entry put into the slot that is handed out stands at place i of the view.
     pub put-view : (entries : List Entry) (entry : Entry) → length entries ≡ 15
         → inOrder next (set entries slot entry) ≡ take i (inOrder word entries) ++ entry ∷ drop i (inOrder word entries)
     put-view entries entry h =
         let p = put-told next slot told e in
-        ap₂ (λ (b : Bank) (s : ℕ). viewed b (set entries s entry)) (ap slotsOf (p .next-word) ∙ bank-again (insertedFromBack i (slotsOf word)) put-fit) (p .next-slot)
-        ∙ rules.inserted-view (slotsOf word) entries (fit-slots word (p .word-valid) .once) (omega (arith, wide word)) i entry (p .place) (p .room)
+        ap₂ (λ (b : Bank) (s : ℕ). viewed b (set entries s entry))
+        (ap slotsOf (p .next-word) ∙ bank-again (insertedFromBack i (slotsOf word)) put-fit) (p .next-slot)
+        ∙ rules.inserted-view (slotsOf word) entries (fit-slots word (p .word-valid) .once) (omega (arith, wide word)) i entry (p .place)
+        (p .room)
 
     pub put-valid : validWord 15 next ≡ true
-    put-valid = let p = put-told next slot told e in ap (validWord 15) (p .next-word) ∙ valid-packed 15 (insertedFromBack i (slotsOf word)) put-fit
+    put-valid = let p = put-told next slot told e in
+        ap (validWord 15) (p .next-word) ∙ valid-packed 15 (insertedFromBack i (slotsOf word)) put-fit
 
 -- ---- a removal
 
 module _ (word i : ℕ) where
-  pub take-accepted : validWord 15 word ≡ true → i < word % 16 → changed 15 word (remove i) ≡ accepted (wordOf (removed i (slotsOf word)) ∷ [])
+  pub take-accepted : validWord 15 word ≡ true → i < word % 16
+      → changed 15 word (remove i) ≡ accepted (wordOf (removed i (slotsOf word)) ∷ [])
   unfolding changedIn
   take-accepted v l = rw (v, lt-ltb i (word % 16) l)
 
@@ -159,7 +173,8 @@ module _ (word i : ℕ) where
 -- ---- another entry in a slot in use
 
 pub change-view : (word : ℕ) (entries : List Entry) (i : ℕ) (entry : Entry) → validWord 15 word ≡ true → length entries ≡ 15 → i < word % 16
-    → inOrder word (set entries (slotAt i (slotsOf word)) entry) ≡ take i (inOrder word entries) ++ entry ∷ drop (suc i) (inOrder word entries)
+    → inOrder word (set entries (slotAt i (slotsOf word)) entry) ≡ take i (inOrder word entries) ++ entry ∷ drop (suc i)
+    (inOrder word entries)
 change-view word entries i entry v h l =
     let f = fit-slots word v in
     rules.replaced-view (slotsOf word) entries (f .once) (omega (arith, wide word)) i entry l (omega (arith, f .sized, wide word))
@@ -185,7 +200,8 @@ module _ (n : ℕ) (h : n ≤ 15) where
     sorted-valid = ap (validWord 15) made ∙ valid-packed 15 (sorted 15 n) (fit-sorted n h)
 
 -- Entries laid into slots 0, 1, .. under the sorted word are the view.
-pub laid-view : (es : List Entry) {word : ℕ} → length es ≤ 15 → madeSorted 15 (length es) ≡ accepted (word ∷ []) → inOrder word (laid es) ≡ es
+pub laid-view : (es : List Entry) {word : ℕ} → length es ≤ 15 → madeSorted 15 (length es) ≡ accepted (word ∷ [])
+    → inOrder word (laid es) ≡ es
 laid-view es {word} h e =
     sorted-view (length es) h e (laid es) (omega (arith, length-append es (replicate (15 - length es) none)))
     ∙ take-at es (replicate (15 - length es) none) (length es) refl
@@ -198,13 +214,15 @@ laid-long es h =
 
 -- The two halves of sixteen rising entries, cut and laid under sorted words.
 module _ (es : List Entry) (r : rising es ≡ true) (h : length es ≡ 16) where
-  pub left-view : {word : ℕ} → madeSorted 15 (cutOf es) ≡ accepted (word ∷ []) → inOrder word (laid (take (cutOf es) es)) ≡ take (cutOf es) es
+  pub left-view : {word : ℕ} → madeSorted 15 (cutOf es) ≡ accepted (word ∷ [])
+      → inOrder word (laid (take (cutOf es) es)) ≡ take (cutOf es) es
   left-view {word} e =
       let c = cut-is es r h in
       let n : length (take (cutOf es) es) ≡ cutOf es = length-take-le (cutOf es) es (omega (arith, c .most)) in
       laid-view (take (cutOf es) es) (omega (arith, c .most)) (ap (madeSorted 15) n ∙ e)
 
-  pub right-view : {word : ℕ} → madeSorted 15 (16 - cutOf es) ≡ accepted (word ∷ []) → inOrder word (laid (drop (cutOf es) es)) ≡ drop (cutOf es) es
+  pub right-view : {word : ℕ} → madeSorted 15 (16 - cutOf es) ≡ accepted (word ∷ [])
+      → inOrder word (laid (drop (cutOf es) es)) ≡ drop (cutOf es) es
   right-view {word} e =
       let c = cut-is es r h in
       let n : length (drop (cutOf es) es) ≡ 16 - cutOf es = length-drop (cutOf es) es ∙ ap (λ (k : ℕ). k - cutOf es) h in

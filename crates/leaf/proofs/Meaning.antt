@@ -50,7 +50,8 @@ module _ (ikey class : ℕ) (small : class < 10) (es : List Entry) where
       let k = rank-lt (getD es p none) in
       record { within = l; same-ikey = omega arith; same-class = omega arith }
 
-  pub met-or-belongs : rising es ≡ true → Meets ikey class es (placeEqual ikey class es) ⊎ Belongs ikey class es (placeGreater ikey class es)
+  pub met-or-belongs : rising es ≡ true → Meets ikey class es (placeEqual ikey class es)
+      ⊎ Belongs ikey class es (placeGreater ikey class es)
   met-or-belongs r =
       elim (decLt (placeEqual ikey class es) (length es)) [
         | yes l ↦ inl (equal-meets (placeEqual ikey class es) l (is-equal (first-passes (λ e. isEq (against ikey class e)) none es l)))
@@ -131,9 +132,11 @@ module _ (cells bytes key : List ℕ) (start : ℕ) (e : Entry) (slot : ℕ) whe
   unfolding metWith
   conflict-means =
       by (eqb (e .class) 10) (eqb (e .class) 9) (bytewise (storedSuffix cells bytes (e .at) start) (drop start key)) (eqb-true (e .class) 9)
-      (λ q. ap (λ (l : List ℕ). bytewise (storedSuffix cells bytes (e .at) start) l) (sym q) ∙ bytewise-same (storedSuffix cells bytes (e .at) start))
+      (λ q. ap (λ (l : List ℕ). bytewise (storedSuffix cells bytes (e .at) start) l) (sym q)
+      ∙ bytewise-same (storedSuffix cells bytes (e .at) start))
     where
-      by : (p q : Bool) (o : Ordering) → (q ≡ true → e .class ≡ 9) → (storedSuffix cells bytes (e .at) start ≡ drop start key → o ≡ Ordering·eq)
+      by : (p q : Bool) (o : Ordering) → (q ≡ true → e .class ≡ 9)
+          → (storedSuffix cells bytes (e .at) start ≡ drop start key → o ≡ Ordering·eq)
           → cond p (layer slot) (cond (q && not (isEq o)) (conflict slot) (found slot)) ≡ conflict slot
           → (e .class ≡ 9) × (storedSuffix cells bytes (e .at) start ≡ drop start key → ⊥)
       by true q o g h d = absurd (let z : _≡_ {A = ℕ} 2 1 = ap (λ (l : List ℕ). getD l 0 0) d in omega arith)
@@ -146,9 +149,11 @@ module _ (cells bytes key : List ℕ) (start : ℕ) (e : Entry) (slot : ℕ) whe
   pub layer-means : metWith cells bytes key start e slot ≡ layer slot → e .class ≡ 10
   unfolding metWith
   layer-means =
-      by (eqb (e .class) 10) (eqb (e .class) 9 && not (sameBytes (storedSuffix cells bytes (e .at) start) (drop start key))) (eqb-true (e .class) 10)
+      by (eqb (e .class) 10) (eqb (e .class) 9 && not (sameBytes (storedSuffix cells bytes (e .at) start) (drop start key)))
+      (eqb-true (e .class) 10)
     where
-      by : (p q : Bool) → (p ≡ true → e .class ≡ 10) → cond p (layer slot) (cond q (conflict slot) (found slot)) ≡ layer slot → e .class ≡ 10
+      by : (p q : Bool) → (p ≡ true → e .class ≡ 10) → cond p (layer slot) (cond q (conflict slot) (found slot)) ≡ layer slot
+          → e .class ≡ 10
       by true q g d = g refl
       by false true g d = absurd (let z : _≡_ {A = ℕ} 1 2 = ap (λ (l : List ℕ). getD l 0 0) d in omega arith)
       by false false g d = absurd (let z : _≡_ {A = ℕ} 0 2 = ap (λ (l : List ℕ). getD l 0 0) d in omega arith)
@@ -182,7 +187,8 @@ module _ (word : ℕ) (entries : List Entry) (cells bytes key : List ℕ) (ikey 
   abbrev there : List ℕ
   there = metWith cells bytes key start (getD view place none) (slotAt place (slotsOf word))
 
-  pub met-means : (k slot : ℕ) → k < 3 → outcome word entries cells bytes key ikey class start ≡ k ∷ slot ∷ [] → MetAt word entries cells bytes key ikey class start k slot
+  pub met-means : (k slot : ℕ) → k < 3 → outcome word entries cells bytes key ikey class start ≡ k ∷ slot ∷ []
+      → MetAt word entries cells bytes key ikey class start k slot
   unfolding outcome
   met-means k slot l = by (ltb place (length view)) (ltb-true place (length view))
     where
@@ -202,7 +208,8 @@ module _ (word : ℕ) (entries : List Entry) (cells bytes key : List ℕ) (ikey 
       by false f d = absurd (let z : _≡_ {A = ℕ} 3 k = ap (λ (x : List ℕ). getD x 0 0) d in omega arith)
 
   -- Not found: the key belongs at the position.
-  pub not-found-means : rising view ≡ true → (position : ℕ) → outcome word entries cells bytes key ikey class start ≡ notFound position → Belongs ikey class view position
+  pub not-found-means : rising view ≡ true → (position : ℕ) → outcome word entries cells bytes key ikey class start ≡ notFound position
+      → Belongs ikey class view position
   unfolding outcome
   not-found-means r position = by (ltb place (length view)) (ltb-false place (length view)) (met-or-belongs ikey class small view r)
     where

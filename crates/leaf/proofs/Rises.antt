@@ -31,7 +31,8 @@ module _ (es : List Entry) (r : rising es ≡ true) where
   take-rises c h =
       rising-if (take c es) (λ i l.
       let n = length-take-le c es h in
-      rw (getD-take c es i none (omega arith), getD-take c es (suc i) none (omega arith)) (rising-weights es r i (suc i) (omega arith) (omega arith)))
+      rw (getD-take c es i none (omega arith), getD-take c es (suc i) none (omega arith))
+      (rising-weights es r i (suc i) (omega arith) (omega arith)))
 
   pub drop-rises : (c : ℕ) → rising (drop c es) ≡ true
   drop-rises c =

@@ -7,7 +7,8 @@ use native.Mathlib.Omega.{arith}
 use native.Mathlib.Decide.{ℕ-discrete}
 use lib.Dec.{T}
 use lib.ListN.{length, getD, take, drop, set, length-drop, take-append-drop}
-use lib.Seq.{length-take-le, take-append-add, take-append-le, take-take, take-at, drop-cons, getD-drop, getD-take, getD-set-same, getD-set-other, split-at}
+use lib.Seq.{length-take-le, take-append-add, take-append-le, take-take, take-at, drop-cons, getD-drop, getD-take, getD-set-same}
+use lib.Seq.{getD-set-other, split-at}
 use Rattle.bank.specs.Lists.{part, turned, count, eachOnce, up}
 use Rattle.bank.specs.Bank.{Bank, width, slotAt, insertedFromBack, removed, sorted}
 use Rattle.bank.proofs.Counts.{count-same, count-other, count-append, count-at, once, slot-lt}
@@ -25,7 +26,8 @@ module _ (i n : ℕ) (ps : List ℕ) where
       → take (n + 1) (turned i (length ps - 1) (length ps) ps) ≡ take i (take n ps) ++ getD ps (length ps - 1) 0 ∷ drop i (take n ps)
   unfolding turned
   in-use-inserted l h =
-      ap (λ (k : ℕ). take k (take i ps ++ (last ++ rest))) (let z : n + 1 ≡ length (take i ps) + suc (n - i) = omega (arith, length-take-le i ps (omega arith)) in z)
+      ap (λ (k : ℕ). take k (take i ps ++ (last ++ rest)))
+      (let z : n + 1 ≡ length (take i ps) + suc (n - i) = omega (arith, length-take-le i ps (omega arith)) in z)
       ∙ take-append-add (take i ps) (last ++ rest) (suc (n - i))
       ∙ ap₂ (λ (x y : List ℕ). x ++ y) (sym (take-take i n ps l))
       (ap (λ (x : List ℕ). take (suc (n - i)) (x ++ rest)) one ∙ ap (λ (x : List ℕ). getD ps (length ps - 1) 0 ∷ x) tail)
@@ -43,7 +45,8 @@ module _ (i n : ℕ) (ps : List ℕ) where
 
       tail : take (n - i) (part i (length ps - 1) ps ++ drop (length ps) ps) ≡ drop i (take n ps)
       tail =
-          take-append-le (n - i) (part i (length ps - 1) ps) (drop (length ps) ps) (omega (arith, length-part i (length ps - 1) ps (omega arith)))
+          take-append-le (n - i) (part i (length ps - 1) ps) (drop (length ps) ps)
+          (omega (arith, length-part i (length ps - 1) ps (omega arith)))
           ∙ take-take (n - i) (length ps - 1 - i) (drop i ps) (omega arith)
           ∙ sym (drop-take i n ps)
 
@@ -51,7 +54,8 @@ module _ (i n : ℕ) (ps : List ℕ) where
   in-use-removed : i < n → n ≤ length ps → take (n - 1) (turned i (i + 1) n ps) ≡ take i (take n ps) ++ drop (i + 1) (take n ps)
   unfolding turned
   in-use-removed l h =
-      ap (λ (k : ℕ). take k (take i ps ++ (part (i + 1) n ps ++ rest))) (let z : n - 1 ≡ length (take i ps) + (n - (i + 1)) = omega (arith, length-take-le i ps (omega arith)) in z)
+      ap (λ (k : ℕ). take k (take i ps ++ (part (i + 1) n ps ++ rest)))
+      (let z : n - 1 ≡ length (take i ps) + (n - (i + 1)) = omega (arith, length-take-le i ps (omega arith)) in z)
       ∙ take-append-add (take i ps) (part (i + 1) n ps ++ rest) (n - (i + 1))
       ∙ ap₂ (λ (x y : List ℕ). x ++ y) (sym (take-take i n ps (omega arith)))
       (take-at (part (i + 1) n ps) rest (n - (i + 1)) (length-part (i + 1) n ps h) ∙ sym (drop-take (i + 1) n ps))
@@ -76,7 +80,8 @@ unseen entries slot e (s ∷ slots) h =
     ]
 
 -- an entry in one slot among others that are not this slot
-seen-between : (entries : List Entry) (slot : ℕ) (e : Entry) (before after : List ℕ) → slot < length entries → count slot before ≡ 0 → count slot after ≡ 0
+seen-between : (entries : List Entry) (slot : ℕ) (e : Entry) (before after : List ℕ) → slot < length entries → count slot before ≡ 0
+    → count slot after ≡ 0
     → map (seen (set entries slot e)) (before ++ slot ∷ after) ≡ map (seen entries) before ++ e ∷ map (seen entries) after
 seen-between entries slot e before after l p q =
     map-append (seen (set entries slot e)) before (slot ∷ after)
@@ -111,7 +116,8 @@ module _ (b : Bank) (entries : List Entry) (t : T (eachOnce (b .slots))) (wide :
       let free = free-slot (b .slots) (b .size) (width b - 1) t (omega arith) (omega arith) in
       let sum = count-parts slot i (inUse b) in
       ap (map (seen (set entries slot e))) (in-use-inserted i (b .size) (b .slots) l h)
-      ∙ seen-between entries slot e (take i (inUse b)) (drop i (inUse b)) (omega (arith, slot-lt (b .slots) t (width b - 1) (omega arith))) (omega arith) (omega arith)
+      ∙ seen-between entries slot e (take i (inUse b)) (drop i (inUse b)) (omega (arith, slot-lt (b .slots) t (width b - 1) (omega arith)))
+      (omega arith) (omega arith)
       ∙ ap₂ (λ (x y : List Entry). x ++ e ∷ y) (map-take (seen entries) i (inUse b)) (map-drop (seen entries) i (inUse b))
 
   -- An entry put into the slot at a position in use takes the place of the one that stood there.
@@ -122,14 +128,16 @@ module _ (b : Bank) (entries : List Entry) (t : T (eachOnce (b .slots))) (wide :
       let slot = slotAt i b in
       let used : getD (inUse b) i 0 ≡ slot = getD-take (b .size) (b .slots) i 0 l in
       let cut : inUse b ≡ take i (inUse b) ++ slot ∷ drop (suc i) (inUse b)
-      = split-at (inUse b) i 0 (omega (arith, length-take-le (b .size) (b .slots) h)) ∙ ap (λ (s : ℕ). take i (inUse b) ++ s ∷ drop (suc i) (inUse b)) used in
+      = split-at (inUse b) i 0 (omega (arith, length-take-le (b .size) (b .slots) h))
+      ∙ ap (λ (s : ℕ). take i (inUse b) ++ s ∷ drop (suc i) (inUse b)) used in
       let sum : count slot (inUse b) ≡ count slot (take i (inUse b)) + count slot (slot ∷ drop (suc i) (inUse b))
       = ap (count slot) cut ∙ count-append slot (take i (inUse b)) (slot ∷ drop (suc i) (inUse b)) in
       let all = count-parts slot (b .size) (b .slots) in
       let one = once (b .slots) t slot (slot-lt (b .slots) t i (omega arith)) in
       let here = count-same slot (drop (suc i) (inUse b)) in
       ap (map (seen (set entries slot e))) cut
-      ∙ seen-between entries slot e (take i (inUse b)) (drop (suc i) (inUse b)) (omega (arith, slot-lt (b .slots) t i (omega arith))) (omega arith) (omega arith)
+      ∙ seen-between entries slot e (take i (inUse b)) (drop (suc i) (inUse b)) (omega (arith, slot-lt (b .slots) t i (omega arith)))
+      (omega arith) (omega arith)
       ∙ ap₂ (λ (x y : List Entry). x ++ e ∷ y) (map-take (seen entries) i (inUse b)) (map-drop (seen entries) (suc i) (inUse b))
 
 -- A removal at i takes the entry at place i out of the view.

@@ -30,7 +30,8 @@ same-classes a b offset e =
     let n : length (drop offset a) ≡ length (drop offset b) = ap length e in
     omega (arith, length-drop offset a, length-drop offset b)
 
-module _ (cells bytes key : List ℕ) (ikey shifts start : ℕ) (fit : fits key ikey shifts start ≡ true) (e : Entry) (s : Says cells bytes (8 * shifts) e) where
+module _ (cells bytes key : List ℕ) (ikey shifts start : ℕ) (fit : fits key ikey shifts start ≡ true) (e : Entry)
+    (s : Says cells bytes (8 * shifts) e) where
   abbrev stored : List ℕ
   stored = storedKey cells bytes (e .at)
 
@@ -47,7 +48,8 @@ module _ (cells bytes key : List ℕ) (ikey shifts start : ℕ) (fit : fits key 
     suffix-on n q = rw (eight-on n) at q
 
     -- The entry that is found holds the key, from this layer on.
-    pub found-same : Bytes key → (e .class ≡ 9 → storedSuffix cells bytes (e .at) start ≡ drop start key) → drop offset stored ≡ drop offset key
+    pub found-same : Bytes key → (e .class ≡ 9 → storedSuffix cells bytes (e .at) start ≡ drop start key)
+        → drop offset stored ≡ drop offset key
     unfolding bytewise
     found-same b f = bytewise-exact (drop offset stored) (drop offset key) (layer-at (s .stored-bytes) b offset ∙ rw here rest)
       where
@@ -69,7 +71,8 @@ module _ (cells bytes key : List ℕ) (ikey shifts start : ℕ) (fit : fits key 
             ]
 
     -- The entry of a conflict holds another key.
-    pub conflict-differs : e .class ≡ 9 → (storedSuffix cells bytes (e .at) start ≡ drop start key → ⊥) → drop offset stored ≡ drop offset key → ⊥
+    pub conflict-differs : e .class ≡ 9 → (storedSuffix cells bytes (e .at) start ≡ drop start key → ⊥)
+        → drop offset stored ≡ drop offset key → ⊥
     unfolding storedSuffix
     conflict-differs n f q =
         f (rw (eight-on n) (sym (drop-drop 8 offset stored) ∙ ap (drop 8) q ∙ drop-drop 8 offset key))
@@ -82,7 +85,8 @@ not-found-differs cells bytes key ikey shifts start fit es p i b h s q =
     never-both ikey (classAt key (8 * shifts)) (omega arith) es {p = i}
     (record {
       within = h;
-      same-ikey = sym (s .stored-ikey) ∙ same-ikeys (storedKey cells bytes (getD es i none .at)) key (8 * shifts) q ∙ fitting key ikey shifts start refl fit .word;
+      same-ikey = sym (s .stored-ikey) ∙ same-ikeys (storedKey cells bytes (getD es i none .at)) key (8 * shifts) q
+          ∙ fitting key ikey shifts start refl fit .word;
       same-class = sym (s .stored-class) ∙ same-classes (storedKey cells bytes (getD es i none .at)) key (8 * shifts) q;
     })
     b

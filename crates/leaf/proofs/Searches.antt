@@ -68,7 +68,8 @@ module _ (cells bytes key : List ℕ) (start : ℕ) (e : Entry) (slot : ℕ) whe
       met-conflict t = rw (ne-eqb (e .class) 10 h, eq-eqb (e .class) 9 q, ← d, t)
 
 -- its suffixes may be compared
-pub met-suffix : (cells bytes key : List ℕ) (start : ℕ) (e : Entry) → lentRight cells bytes ≡ true → ofKind cells e ≡ true → (e .class ≡ 10 → ⊥)
+pub met-suffix : (cells bytes key : List ℕ) (start : ℕ) (e : Entry) → lentRight cells bytes ≡ true → ofKind cells e ≡ true
+    → (e .class ≡ 10 → ⊥)
     → start ≤ length key → Lent cells bytes × Cell cells (e .at) × (start ≤ length key)
 met-suffix cells bytes key start e l k q h = (lent-right cells bytes l, cell-right cells (e .at) (kind-has-cell cells e k q), h)
 
@@ -105,7 +106,8 @@ module _ {word : ℕ} {entries : List Entry} {cells bytes key : List ℕ} {ikey 
   not-less : {o : Ordering} → o ≡ Ordering·gt → isLess o ≡ false
   not-less h = rw h
 
-  outcome-none : {p : ℕ} → length view ≡ placeEqual ikey class view → p ≡ placeGreater ikey class view → accepted (notFound p) ≡ accepted answer
+  outcome-none : {p : ℕ} → length view ≡ placeEqual ikey class view → p ≡ placeGreater ikey class view
+      → accepted (notFound p) ≡ accepted answer
   unfolding outcome
   outcome-none d e = rw (← d, le-ltb (length view) (length view) (omega arith), e)
 
@@ -116,7 +118,8 @@ module _ {word : ℕ} {entries : List Entry} {cells bytes key : List ℕ} {ikey 
       ((let z : i ≡ length view = omega (arith, long) in z)
       ∙ first-none (λ e. isLess (against ikey class e)) none view (λ k m. not-less (f k (omega (arith, long)))))
 
-  module _ (i : ℕ) {slot len : ℕ} (r : Ordered) (el : len ≡ length key - 8 * shifts) (l : i < size) (f : Before i) (d : slot ≡ slotAt i (slotsOf word))
+  module _ (i : ℕ) {slot len : ℕ} (r : Ordered) (el : len ≡ length key - 8 * shifts) (l : i < size) (f : Before i)
+      (d : slot ≡ slotAt i (slotsOf word))
       (o : orderOf r ≡ against ikey (classOf len) (getD entries slot none)) where
     here : getD view i none ≡ getD entries slot none
     here = entry-in-order word (s .word-valid) entries i (omega arith) d
@@ -127,11 +130,13 @@ module _ {word : ℕ} {entries : List Entry} {cells bytes key : List ℕ} {ikey 
     pub scan-on : r ≡ Greater → (k : ℕ) → k < i + 1 → against ikey class (getD view k none) ≡ Ordering·gt
     scan-on q = below-more _ i f (compared ∙ ap orderOf q)
 
-    pub scan-met : {x : Answer} → r ≡ Equal → x ≡ accepted (metWith cells bytes key start (getD entries slot none) slot) → x ≡ accepted answer
+    pub scan-met : {x : Answer} → r ≡ Equal → x ≡ accepted (metWith cells bytes key start (getD entries slot none) slot)
+        → x ≡ accepted answer
     unfolding outcome
     scan-met q e =
         let p : i ≡ placeEqual ikey class view
-        = first-at (λ e. isEq (against ikey class e)) none view i (omega (arith, long)) (λ k m. not-equal (f k m)) (ap isEq (compared ∙ ap orderOf q)) in
+        = first-at (λ e. isEq (against ikey class e)) none view i (omega (arith, long)) (λ k m. not-equal (f k m))
+        (ap isEq (compared ∙ ap orderOf q)) in
         e ∙ rw (← p, lt-ltb i (length view) (omega (arith, long)), here, ← d)
 
     -- past an entry that is greater all are, so none is equal
@@ -140,33 +145,39 @@ module _ {word : ℕ} {entries : List Entry} {cells bytes key : List ℕ} {ikey 
         elim (decLt k i) [
           | yes n ↦ not-equal (f k n)
           | no n ↦
-              ap isEq (all-above view (good-parts cells view (s .good) .1) ikey class (class-small key (8 * shifts)) i k (omega arith) m (compared ∙ ap orderOf q))
+              ap isEq (all-above view (good-parts cells view (s .good) .1) ikey class (class-small key (8 * shifts)) i k (omega arith) m
+              (compared ∙ ap orderOf q))
         ]
 
     pub scan-less : r ≡ Less → accepted (notFound i) ≡ accepted answer
     scan-less q =
         outcome-none
         (first-none (λ e. isEq (against ikey class e)) none view (apart q))
-        (first-at (λ e. isLess (against ikey class e)) none view i (omega (arith, long)) (λ k m. not-less (f k m)) (ap isLess (compared ∙ ap orderOf q)))
+        (first-at (λ e. isLess (against ikey class e)) none view i (omega (arith, long)) (λ k m. not-less (f k m))
+        (ap isLess (compared ∙ ap orderOf q)))
 
     pub scan-kind : ofKind cells (getD entries slot none) ≡ true
-    scan-kind = ap (ofKind cells) (sym here) ∙ every-at (ofKind cells) none view (good-parts cells view (s .good) .0) i (omega (arith, long))
+    scan-kind = ap (ofKind cells) (sym here)
+        ∙ every-at (ofKind cells) none view (good-parts cells view (s .good) .0) i (omega (arith, long))
 
 -- ---- what is refused, and in which order
 
 module _ (word : ℕ) (key : List ℕ) (ikey shifts start : ℕ) {r : Bool} (e : r ≡ fits key ikey shifts start) where
-  pub unlent-key : {x : Answer} → not r ≡ true → x ≡ refused Key (givenBack word ikey shifts start) → x ≡ unlentSaid word key ikey shifts start
+  pub unlent-key : {x : Answer} → not r ≡ true → x ≡ refused Key (givenBack word ikey shifts start)
+      → x ≡ unlentSaid word key ikey shifts start
   unfolding unlentSaid
   unlent-key q u = u ∙ rw (← e, not-true r q)
 
-  pub unlent-memory : {x : Answer} → not r ≡ false → x ≡ refused Memory (givenBack word ikey shifts start) → x ≡ unlentSaid word key ikey shifts start
+  pub unlent-memory : {x : Answer} → not r ≡ false → x ≡ refused Memory (givenBack word ikey shifts start)
+      → x ≡ unlentSaid word key ikey shifts start
   unfolding unlentSaid
   unlent-memory q u = u ∙ rw (← e, not-false r q)
 
 pub told-yes : {r b : Bool} → r ≡ b → not r ≡ false → b ≡ true
 told-yes {r} e q = sym e ∙ not-false r q
 
-module _ (word : ℕ) (entries : List Entry) (cells bytes key : List ℕ) (ikey shifts start : ℕ) {g : Bool} (eg : g ≡ goodEntries cells (inOrder word entries)) where
+module _ (word : ℕ) (entries : List Entry) (cells bytes key : List ℕ) (ikey shifts start : ℕ) {g : Bool}
+    (eg : g ≡ goodEntries cells (inOrder word entries)) where
   abbrev among : Answer
   among = lentSaid word entries cells bytes key ikey shifts start
 
@@ -179,10 +190,12 @@ module _ (word : ℕ) (entries : List Entry) (cells bytes key : List ℕ) (ikey 
     unfolding lentSaid
     lent-key q u = u ∙ rw (← eg, not-false g qg, ← ef, not-true f q)
 
-    pub lent-searchable : not f ≡ false → validWord 15 word ≡ true → lentRight cells bytes ≡ true → Searchable word entries cells bytes key ikey shifts start
+    pub lent-searchable : not f ≡ false → validWord 15 word ≡ true → lentRight cells bytes ≡ true
+        → Searchable word entries cells bytes key ikey shifts start
     lent-searchable q v l = record { word-valid = v; lent = l; good = told-yes eg qg; fit = told-yes ef q }
 
-    pub lent-outcome : {x : Answer} → not f ≡ false → x ≡ accepted (outcome word entries cells bytes key ikey (classAt key (8 * shifts)) start) → x ≡ among
+    pub lent-outcome : {x : Answer} → not f ≡ false
+        → x ≡ accepted (outcome word entries cells bytes key ikey (classAt key (8 * shifts)) start) → x ≡ among
     unfolding lentSaid
     lent-outcome q e = e ∙ rw (← eg, not-false g qg, ← ef, not-false f q)
 

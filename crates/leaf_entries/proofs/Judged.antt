@@ -67,7 +67,8 @@ module _ (word : ℕ) (v : validWord 15 word ≡ true) (entries : List Entry) {s
   long = length-in-order word v entries ∙ sym s
 
   module _ (cells : List ℕ) where
-    module _ (i : ℕ) {slot : ℕ} {r : Bool} (l : i < size) (e : slot ≡ slotAt i (slotsOf word)) (k : r ≡ ofKind cells (getD entries slot none)) where
+    module _ (i : ℕ) {slot : ℕ} {r : Bool} (l : i < size) (e : slot ≡ slotAt i (slotsOf word))
+        (k : r ≡ ofKind cells (getD entries slot none)) where
       pub kinds-not : not r ≡ true → false ≡ every (ofKind cells) (inOrder word entries)
       kinds-not q =
           every-not (ofKind cells) none (inOrder word entries) i (omega (arith, long))
@@ -89,19 +90,24 @@ module _ (word : ℕ) (v : validWord 15 word ≡ true) (entries : List Entry) {s
     pub rising-stops : not r ≡ true → false ≡ rising (inOrder word entries)
     rising-stops q =
         rising-not (inOrder word entries) (i - 1) (omega (arith, long))
-        (ap (λ (n : ℕ). less (getD (inOrder word entries) (i - 1) none) (getD (inOrder word entries) n none)) (let z : suc (i - 1) ≡ i = omega arith in z)
+        (ap (λ (n : ℕ). less (getD (inOrder word entries) (i - 1) none) (getD (inOrder word entries) n none))
+        (let z : suc (i - 1) ≡ i = omega arith in z)
         ∙ pair-here ∙ not-true r q)
 
-    pub rising-goes-on : ((j : ℕ) → j < i → 1 ≤ j → less (getD (inOrder word entries) (j - 1) none) (getD (inOrder word entries) j none) ≡ true)
-        → not r ≡ false → (j : ℕ) → j < i + 1 → 1 ≤ j → less (getD (inOrder word entries) (j - 1) none) (getD (inOrder word entries) j none) ≡ true
+    pub rising-goes-on : ((j : ℕ) → j < i → 1 ≤ j
+        → less (getD (inOrder word entries) (j - 1) none) (getD (inOrder word entries) j none) ≡ true)
+        → not r ≡ false → (j : ℕ) → j < i + 1 → 1 ≤ j
+        → less (getD (inOrder word entries) (j - 1) none) (getD (inOrder word entries) j none) ≡ true
     rising-goes-on f q = below-more _ i f (λ h. pair-here ∙ not-false r q)
 
-  pub rising-all : (i : ℕ) → size ≤ i → ((j : ℕ) → j < i → 1 ≤ j → less (getD (inOrder word entries) (j - 1) none) (getD (inOrder word entries) j none) ≡ true)
+  pub rising-all : (i : ℕ) → size ≤ i → ((j : ℕ) → j < i → 1 ≤ j
+      → less (getD (inOrder word entries) (j - 1) none) (getD (inOrder word entries) j none) ≡ true)
       → true ≡ rising (inOrder word entries)
   rising-all i l f =
       sym (rising-if (inOrder word entries)
       (λ j h. less-weight (getD (inOrder word entries) j none) (getD (inOrder word entries) (suc j) none)
-      (ap (λ (n : ℕ). less (getD (inOrder word entries) n none) (getD (inOrder word entries) (suc j) none)) (let z : j ≡ suc j - 1 = omega arith in z)
+      (ap (λ (n : ℕ). less (getD (inOrder word entries) n none) (getD (inOrder word entries) (suc j) none))
+      (let z : j ≡ suc j - 1 = omega arith in z)
       ∙ f (suc j) (omega (arith, long)) (omega arith))))
 
 -- both judgements of the entries

@@ -37,7 +37,8 @@ module _ (b : Bank) (entries : List Entry) (h : b .size ≤ width b) where
   pub viewed-at : (i : ℕ) → i < b .size → getD (viewed b entries) i none ≡ getD entries (slotAt i b) none
   unfolding viewed
   viewed-at i l =
-      getD-map (λ slot. getD entries slot none) (inUse b) i 0 none (let z : i < length (inUse b) = rw (length-take-le (b .size) (b .slots) h) l in z)
+      getD-map (λ slot. getD entries slot none) (inUse b) i 0 none
+      (let z : i < length (inUse b) = rw (length-take-le (b .size) (b .slots) h) l in z)
       ∙ ap (λ (s : ℕ). getD entries s none) (getD-take (b .size) (b .slots) i 0 l)
 
 -- ---- a leaf's slot word
@@ -48,7 +49,8 @@ module _ (word : ℕ) {r : Changed} (e : saidChanged r ≡ changed 15 word fromV
   unfolding changedIn
   valid-yes {x} q = by (validWord 15 word) (sym (ap saidChanged q) ∙ e)
     where
-      by : (p : Bool) → accepted (x ∷ []) ≡ cond p (accepted (wordOf (bankOf 15 word) ∷ [])) (record { number = 2; values = word ∷ [] }) → true ≡ p
+      by : (p : Bool) → accepted (x ∷ []) ≡ cond p (accepted (wordOf (bankOf 15 word) ∷ [])) (record { number = 2; values = word ∷ [] })
+          → true ≡ p
       by true d = refl
       by false d = absurd (let z : _≡_ {A = ℕ} 0 2 = ap (λ (a : Answer). a .number) d in omega arith)
 
@@ -56,7 +58,8 @@ module _ (word : ℕ) {r : Changed} (e : saidChanged r ≡ changed 15 word fromV
   unfolding changedIn
   valid-no {why} {x} q = by (validWord 15 word) (sym (ap saidChanged q) ∙ e)
     where
-      by : (p : Bool) → refused why (x ∷ []) ≡ cond p (accepted (wordOf (bankOf 15 word) ∷ [])) (record { number = 2; values = word ∷ [] }) → false ≡ p
+      by : (p : Bool) → refused why (x ∷ []) ≡ cond p (accepted (wordOf (bankOf 15 word) ∷ [])) (record { number = 2; values = word ∷ [] })
+          → false ≡ p
       by true d = absurd (omega (arith, ap (λ (a : Answer). a .number) d, number-pos why))
       by false d = refl
 

@@ -101,13 +101,16 @@ part-from bytes a n start m e =
           ∙ ap (λ (k : ℕ). take k (drop start (drop a bytes))) (let z : 0 ≡ n - start = omega arith in z)
           ∙ sym (drop-take start n (drop a bytes))
       | no l ↦
-          ap₂ (λ (k j : ℕ). take k (drop j bytes)) (let z : a + n - (a + m) ≡ n - start = omega arith in z) (let z : a + m ≡ a + start = omega arith in z)
+          ap₂ (λ (k j : ℕ). take k (drop j bytes)) (let z : a + n - (a + m) ≡ n - start = omega arith in z)
+          (let z : a + m ≡ a + start = omega arith in z)
           ∙ ap (take (n - start)) (sym (drop-drop start a bytes))
           ∙ sym (drop-take start n (drop a bytes))
     ]
 
-module _ (cells bytes : List ℕ) (cell : ℕ) (key : List ℕ) (start : ℕ) (r : Ordered) {m : ℕ} (e : m ≡ min start (getD cells (2 * cell) 0 - 1))
-    (o : orderOf r ≡ bytewise (take (256 * cell + (getD cells (2 * cell) 0 - 1) - (256 * cell + m)) (drop (256 * cell + m) bytes)) (take (length key - start) (drop start key))) where
+module _ (cells bytes : List ℕ) (cell : ℕ) (key : List ℕ) (start : ℕ) (r : Ordered) {m : ℕ}
+    (e : m ≡ min start (getD cells (2 * cell) 0 - 1))
+    (o : orderOf r ≡ bytewise (take (256 * cell + (getD cells (2 * cell) 0 - 1) - (256 * cell + m)) (drop (256 * cell + m) bytes))
+    (take (length key - start) (drop start key))) where
   suffixes : orderOf r ≡ bytewise (storedSuffix cells bytes cell start) (drop start key)
   unfolding storedSuffix
   suffixes = o ∙ ap₂ bytewise (part-from bytes (256 * cell) (getD cells (2 * cell) 0 - 1) start m e) (rest-of key start)

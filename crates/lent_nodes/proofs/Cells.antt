@@ -7,8 +7,10 @@ use native.Mathlib.Omega.{arith}
 use lib.ListN.{length, set, length-append, length-replicate}
 use lib.Seq.{take-append-le, take-length}
 use Rattle.lent_words.specs.Parts.{part, putPart, zeros}
-use Rattle.lent_nodes.specs.Layout.{cellStart, keyStart, cellAt, bytesAt, markAt, frameAt, keyAt, keyBytes, putCell, putKey, freedCell}
-use Rattle.lent_words.proofs.Words.{part-part, part-kept, put-put, put-same, put-in, put-out, put-length, first-put, set-put, part-all, lt-or-ge}
+use Rattle.lent_nodes.specs.Layout.{cellStart, keyStart, cellAt, bytesAt, markAt, frameAt, keyAt, keyBytes, putCell, putKey}
+use Rattle.lent_nodes.specs.Layout.{freedCell}
+use Rattle.lent_words.proofs.Words.{part-part, part-kept, put-put, put-same, put-in, put-out, put-length, first-put, set-put, part-all}
+use Rattle.lent_words.proofs.Words.{lt-or-ge}
 
 pub cells-apart : (j k : ℕ) → (j ≡ k → ⊥) → (cellStart j + 2 ≤ cellStart k) ⊎ (cellStart k + 2 ≤ cellStart j)
 cells-apart j k ne = ⊎-elim (λ l. inl (omega arith)) (λ g. inr (omega arith)) (lt-or-ge j k)
@@ -47,11 +49,13 @@ module _ (m : List ℕ) (k : ℕ) (fits : cellStart k + 2 ≤ length m) where
   mark-freed = first-put m (cellStart k) (zeros 2) fits (omega arith)
 
   -- the two stores are one
-  pub cell-written : (len frame : ℕ) {m1 m2 : List ℕ} → m1 ≡ set m (cellStart k) (len + 1) → m2 ≡ set m1 (cellStart k + 1) frame → m2 ≡ putCell m k len frame
+  pub cell-written : (len frame : ℕ) {m1 m2 : List ℕ} → m1 ≡ set m (cellStart k) (len + 1) → m2 ≡ set m1 (cellStart k + 1) frame
+      → m2 ≡ putCell m k len frame
   cell-written len frame e1 e2 =
       e2
       ∙ ap (λ (x : List ℕ). set x (cellStart k + 1) frame) (e1 ∙ set-put m (cellStart k) (len + 1) (omega arith))
-      ∙ set-put (putPart m (cellStart k) ((len + 1) ∷ [])) (cellStart k + 1) frame (rw (put-length m (cellStart k) ((len + 1) ∷ []) (omega arith)) (omega arith))
+      ∙ set-put (putPart m (cellStart k) ((len + 1) ∷ [])) (cellStart k + 1) frame
+      (rw (put-length m (cellStart k) ((len + 1) ∷ []) (omega arith)) (omega arith))
       ∙ put-put m (cellStart k) ((len + 1) ∷ []) (frame ∷ []) (omega arith)
 
 -- ---- the key's bytes
@@ -82,7 +86,8 @@ front : (key rest : List ℕ) → part (key ++ rest) 0 (length key) ≡ key
 unfolding part
 front key rest = take-append-le (length key) key rest (omega arith) ∙ take-length key
 
-pub key-stored : (cells bytes : List ℕ) (k : ℕ) (key : List ℕ) (frame : ℕ) → cellStart k + 2 ≤ length cells → keyStart k + 256 ≤ length bytes → length key ≤ 256
+pub key-stored : (cells bytes : List ℕ) (k : ℕ) (key : List ℕ) (frame : ℕ) → cellStart k + 2 ≤ length cells
+    → keyStart k + 256 ≤ length bytes → length key ≤ 256
     → keyAt (putCell cells k (length key) frame) (putKey bytes k key) k ≡ key
 key-stored cells bytes k key frame hc hb h =
     let l : length (keyBytes key) ≡ 256 = key-length key h in

@@ -61,7 +61,8 @@ module _ (m : List ℕ) (k : ℕ) (fits : nodeStart k + 47 ≤ length m) (n : �
     nodes-as-free h a = as-free nodeStart m k ws (rw whole fits) (omega arith) outside n a h
 
   pub nodes-more : k < n → (kindAt m k ≡ 0 → ⊥) → length (freeNodes (freedNode m k) n) ≡ length (freeNodes m n) + 1
-  nodes-more l a = more-free nodeStart m k freeWords (rw free-length fits) (omega (arith, free-length)) (outside freeWords free-length) n l a refl
+  nodes-more l a = more-free nodeStart m k freeWords (rw free-length fits) (omega (arith, free-length)) (outside freeWords free-length) n l
+      a refl
 
 -- ---- cells
 

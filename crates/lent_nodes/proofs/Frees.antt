@@ -34,8 +34,15 @@ unfolding passing
 first-passing test i zero e = absurd (no-head e)
 first-passing test i (suc n) {k} {ks} e = by (test i) refl (first-passing test (suc i) n) e
   where
-    by : (b : Bool) → test i ≡ b → (passing test (suc i) n ≡ k ∷ ks → First test (suc i) n k) → consIf b i (passing test (suc i) n) ≡ k ∷ ks → First test i (suc n) k
-    by true t f d = let q : i ≡ k = cc in record { low = omega arith; high = omega arith; passes = ap test (sym q) ∙ t; none-below = λ j l h. absurd (omega arith) }
+    by : (b : Bool) → test i ≡ b → (passing test (suc i) n ≡ k ∷ ks → First test (suc i) n k)
+        → consIf b i (passing test (suc i) n) ≡ k ∷ ks → First test i (suc n) k
+    by true t f d = let q : i ≡ k = cc in record {
+      low = omega arith;
+      high = omega arith;
+      passes = ap test (sym q) ∙ t;
+      none-below =
+          λ j l h. absurd (omega arith);
+    }
     by false t f d =
         let r = f d in
         record {
@@ -51,7 +58,8 @@ unfolding passing
 all-used test i zero e j l h = absurd (omega arith)
 all-used test i (suc n) e j l h = by (test i) refl e (λ d g. all-used test (suc i) n d j g (omega arith))
   where
-    by : (b : Bool) → test i ≡ b → consIf b i (passing test (suc i) n) ≡ [] → (passing test (suc i) n ≡ [] → i < j → test j ≡ false) → test j ≡ false
+    by : (b : Bool) → test i ≡ b → consIf b i (passing test (suc i) n) ≡ [] → (passing test (suc i) n ≡ [] → i < j → test j ≡ false)
+        → test j ≡ false
     by true t d f = absurd (no-head (sym d))
     by false t d f = ⊎-elim (λ q. ap test (sym q) ∙ t) (f d) (eq-or-lt-of-le l)
 
@@ -69,12 +77,14 @@ passing-same p q i zero f = refl
 passing-same p q i (suc n) f = rw (f i (omega arith), passing-same p q (suc i) n (λ j l. f j (omega arith)))
 
 -- the test fails at k from now on, and elsewhere is as it was: the list loses its first number, if that is k ..
-pub first-taken : (p q : ℕ → Bool) (i n : ℕ) {k : ℕ} {ks : List ℕ} → passing p i n ≡ k ∷ ks → q k ≡ false → ((j : ℕ) → (j ≡ k → ⊥) → q j ≡ p j) → passing q i n ≡ ks
+pub first-taken : (p q : ℕ → Bool) (i n : ℕ) {k : ℕ} {ks : List ℕ} → passing p i n ≡ k ∷ ks → q k ≡ false
+    → ((j : ℕ) → (j ≡ k → ⊥) → q j ≡ p j) → passing q i n ≡ ks
 unfolding passing
 first-taken p q i zero e t f = absurd (no-head e)
 first-taken p q i (suc n) {k} {ks} e t f = by (p i) refl (λ d. first-taken p q (suc i) n d t f) e
   where
-    by : (b : Bool) → p i ≡ b → (passing p (suc i) n ≡ k ∷ ks → passing q (suc i) n ≡ ks) → consIf b i (passing p (suc i) n) ≡ k ∷ ks → consIf (q i) i (passing q (suc i) n) ≡ ks
+    by : (b : Bool) → p i ≡ b → (passing p (suc i) n ≡ k ∷ ks → passing q (suc i) n ≡ ks) → consIf b i (passing p (suc i) n) ≡ k ∷ ks
+        → consIf (q i) i (passing q (suc i) n) ≡ ks
     by true u g d =
         let h : i ≡ k = cc in
         let r : passing p (suc i) n ≡ ks = cc in
@@ -97,7 +107,8 @@ one-fewer p q k i (suc n) l h a b f = ⊎-elim here (λ g. later g (one-fewer p 
     longer true u v e = omega arith
     longer false u v e = e
 
-    later : i < k → length (passing p (suc i) n) ≡ length (passing q (suc i) n) + 1 → length (consIf (p i) i (passing p (suc i) n)) ≡ length (consIf (q i) i (passing q (suc i) n)) + 1
+    later : i < k → length (passing p (suc i) n) ≡ length (passing q (suc i) n) + 1
+        → length (consIf (p i) i (passing p (suc i) n)) ≡ length (consIf (q i) i (passing q (suc i) n)) + 1
     later g e = rw (f i (λ z. omega arith)) (longer (p i) _ _ e)
 
 -- ---- a part is written at k's place, and no other number's place is in it
@@ -111,19 +122,22 @@ module _ (place : ℕ → ℕ) (xs : List ℕ) (k : ℕ) (ys : List ℕ) (fits :
   now = ap (λ (x : ℕ). eqb x 0) (first-put xs (place k) ys fits some)
 
   -- the lowest free number is taken
-  pub lowest-taken : (n : ℕ) {ks : List ℕ} → frees place xs n ≡ k ∷ ks → (getD ys 0 0 ≡ 0 → ⊥) → frees place (putPart xs (place k) ys) n ≡ ks
+  pub lowest-taken : (n : ℕ) {ks : List ℕ} → frees place xs n ≡ k ∷ ks → (getD ys 0 0 ≡ 0 → ⊥)
+      → frees place (putPart xs (place k) ys) n ≡ ks
   lowest-taken n e h = first-taken (isFree place xs) (isFree place (putPart xs (place k) ys)) 0 n e (now ∙ ne-eqb _ _ h) others
 
   -- a free number is taken, and one in use is freed
   pub fewer-free : (n : ℕ) → k < n → getD xs (place k) 0 ≡ 0 → (getD ys 0 0 ≡ 0 → ⊥)
       → length (frees place xs n) ≡ length (frees place (putPart xs (place k) ys) n) + 1
   fewer-free n l a h =
-      one-fewer (isFree place xs) (isFree place (putPart xs (place k) ys)) k 0 n (omega arith) (omega arith) (eq-eqb _ _ a) (now ∙ ne-eqb _ _ h) others
+      one-fewer (isFree place xs) (isFree place (putPart xs (place k) ys)) k 0 n (omega arith) (omega arith) (eq-eqb _ _ a)
+      (now ∙ ne-eqb _ _ h) others
 
   pub more-free : (n : ℕ) → k < n → (getD xs (place k) 0 ≡ 0 → ⊥) → getD ys 0 0 ≡ 0
       → length (frees place (putPart xs (place k) ys) n) ≡ length (frees place xs n) + 1
   more-free n l a h =
-      one-fewer (isFree place (putPart xs (place k) ys)) (isFree place xs) k 0 n (omega arith) (omega arith) (now ∙ eq-eqb _ _ h) (ne-eqb _ _ a)
+      one-fewer (isFree place (putPart xs (place k) ys)) (isFree place xs) k 0 n (omega arith) (omega arith) (now ∙ eq-eqb _ _ h)
+      (ne-eqb _ _ a)
       (λ j ne. sym (others j ne))
 
   -- one in use is written again
@@ -171,10 +185,12 @@ module _ (place : ℕ → ℕ) (xs : List ℕ) (n i : ℕ) (l : i < n) where
   pub pass-one : Passed (isFree place xs) n i → (getD xs (place i) 0 ≡ 0 → ⊥) → Passed (isFree place xs) n (i + 1)
   pass-one p z = p ∙ miss (isFree place xs) n i l (ne-eqb _ _ z)
 
-  pub count-one : (found : ℕ) → Counted (isFree place xs) n i found → getD xs (place i) 0 ≡ 0 → Counted (isFree place xs) n (i + 1) (found + 1)
+  pub count-one : (found : ℕ) → Counted (isFree place xs) n i found → getD xs (place i) 0 ≡ 0
+      → Counted (isFree place xs) n (i + 1) (found + 1)
   count-one found p z = let e = ap (length {A = ℕ}) (hit (isFree place xs) n i l (eq-eqb _ _ z)) in omega arith
 
-  pub count-none : (found : ℕ) → Counted (isFree place xs) n i found → (getD xs (place i) 0 ≡ 0 → ⊥) → Counted (isFree place xs) n (i + 1) found
+  pub count-none : (found : ℕ) → Counted (isFree place xs) n i found → (getD xs (place i) 0 ≡ 0 → ⊥)
+      → Counted (isFree place xs) n (i + 1) found
   count-none found p z = let e = ap (length {A = ℕ}) (miss (isFree place xs) n i l (ne-eqb _ _ z)) in omega arith
 
 -- the word that the loop looks at

@@ -8,8 +8,10 @@ use lib.ListN.{length, getD, set, length-append, length-set, length-replicate}
 use Rattle.lent_nodes.specs.declared.inside.Leaf.{Leaf}
 use Rattle.lent_nodes.specs.declared.inside.Internode.{Internode}
 use Rattle.lent_words.specs.Parts.{part, putPart, zeros}
-use Rattle.lent_nodes.specs.Layout.{nodeStart, nodeAt, putNode, kindAt, wordAt, leafOf, leafWords, leafAt, putLeaf, internodeOf, internodeWords, internodeAt, putInternode, freeWords, freedNode, WholeLeaf, WholeInternode}
-use Rattle.lent_words.proofs.Words.{part-at, part-part, part-kept, put-put, put-same, put-out, put-left, put-length, first-put, set-put, middle, lt-or-ge}
+use Rattle.lent_nodes.specs.Layout.{nodeStart, nodeAt, putNode, kindAt, wordAt, leafOf, leafWords, leafAt, putLeaf, internodeOf}
+use Rattle.lent_nodes.specs.Layout.{internodeWords, internodeAt, putInternode, freeWords, freedNode, WholeLeaf, WholeInternode}
+use Rattle.lent_words.proofs.Words.{part-at, part-part, part-kept, put-put, put-same, put-out, put-left, put-length, first-put, set-put}
+use Rattle.lent_words.proofs.Words.{middle, lt-or-ge}
 
 -- ---- the words of a node
 
@@ -91,8 +93,12 @@ module _ (m : List ℕ) (k : ℕ) (fits : nodeStart k + 47 ≤ length m) where
       → c ≡ part m (nodeStart k + 17) 16 → record { n = n; ikeys = i; children = c } ≡ internodeAt m k
   unfolding internodeOf
   internode-loaded en ei ec =
-      cc
-      (word-loaded 1 (omega arith), part-part m (nodeStart k) 47 2 15 fits (omega arith), part-part m (nodeStart k) 47 17 16 fits (omega arith))
+      cc (
+        word-loaded 1 (omega arith),
+        part-part m (nodeStart k) 47 2 15 fits (omega arith),
+        part-part m (nodeStart k) 47 17 16 fits
+            (omega arith),
+      )
 
 next : (xs : List ℕ) (at : ℕ) (ys : List ℕ) (bt : ℕ) (zs : List ℕ) → bt ≡ at + length ys → bt + length zs ≤ length xs
     → putPart (putPart xs at ys) bt zs ≡ putPart xs at (ys ++ zs)
@@ -120,11 +126,13 @@ pub leaf-written : (m : List ℕ) (k : ℕ) (l : Leaf) {m1 m2 m3 m4 m5 : List �
     → m4 ≡ putPart m3 (nodeStart k + 17) (l .classes) → m5 ≡ putPart m4 (nodeStart k + 32) (l .refs) → m5 ≡ putLeaf m k l
 leaf-written m k l w h e1 e2 e3 e4 e5 =
     rw (e5, e4, e3, e2, e1)
-    (five m (nodeStart k) 1 (l .word) (l .ikeys) (l .classes) (l .refs) (nodeStart k + 17) (nodeStart k + 32) (omega arith) (omega arith) (omega arith))
+    (five m (nodeStart k) 1 (l .word) (l .ikeys) (l .classes) (l .refs) (nodeStart k + 17) (nodeStart k + 32) (omega arith) (omega arith)
+    (omega arith))
 
 pub internode-written : (m : List ℕ) (k : ℕ) (x : Internode) {m1 m2 m3 m4 m5 : List ℕ} → WholeInternode x → nodeStart k + 47 ≤ length m
     → m1 ≡ set m (nodeStart k) 2 → m2 ≡ set m1 (nodeStart k + 1) (x .n) → m3 ≡ putPart m2 (nodeStart k + 2) (x .ikeys)
     → m4 ≡ putPart m3 (nodeStart k + 17) (x .children) → m5 ≡ putPart m4 (nodeStart k + 33) (zeros 14) → m5 ≡ putInternode m k x
 internode-written m k x w h e1 e2 e3 e4 e5 =
     rw (e5, e4, e3, e2, e1)
-    (five m (nodeStart k) 2 (x .n) (x .ikeys) (x .children) (zeros 14) (nodeStart k + 17) (nodeStart k + 33) (omega arith) (omega arith) (omega (arith, length-replicate {A = ℕ} 14 0)))
+    (five m (nodeStart k) 2 (x .n) (x .ikeys) (x .children) (zeros 14) (nodeStart k + 17) (nodeStart k + 33) (omega arith) (omega arith)
+    (omega (arith, length-replicate {A = ℕ} 14 0)))

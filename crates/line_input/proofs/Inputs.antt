@@ -1,4 +1,5 @@
--- Lines taken one after another, from whatever parts the input comes in, are the lines of the input, as much of each as is kept. Assumes nothing.
+-- Lines taken one after another, from whatever parts the input comes in, are the lines of the input, as much of each as is kept. Assumes
+-- nothing.
 use Prim.Native.Nat.{ℕ, zero, suc, _+_, _-_, _<_}
 use mathlib.Core.Path.{_≡_, refl, ap, sym, _∙_}
 use mathlib.Core.Logic.{⊎-elim}
@@ -62,7 +63,8 @@ clean-up (b ∷ bs) = up-step (eqb b 10) b (upTo 10 bs) refl (clean-up bs)
 -- ---- bytes with one, cut there
 
 cut-step : (t : Bool) (b : ℕ) (us bs : List ℕ) → (t ≡ true → b ≡ 10) → (length us < length bs → bs ≡ us ++ (10 ∷ drop (suc (length us)) bs))
-    → length (cond t [] (b ∷ us)) < suc (length bs) → b ∷ bs ≡ cond t [] (b ∷ us) ++ (10 ∷ drop (suc (length (cond t [] (b ∷ us)))) (b ∷ bs))
+    → length (cond t [] (b ∷ us)) < suc (length bs)
+    → b ∷ bs ≡ cond t [] (b ∷ us) ++ (10 ∷ drop (suc (length (cond t [] (b ∷ us)))) (b ∷ bs))
 cut-step true b us bs f g h = ap (λ (x : ℕ). x ∷ bs) (f refl)
 cut-step false b us bs f g h = ap (λ (l : List ℕ). b ∷ l) (g (omega arith))
 
@@ -100,7 +102,8 @@ take-over n w us =
     rw z (append-nil (take n w) ∙ sym (take-append-le n w us (omega arith))))
     (λ h.
     let k : length w + (n - length w) ≡ n = omega arith in
-    let t : take n (w ++ us) ≡ w ++ take (n - length w) us = ap (λ (j : ℕ). take j (w ++ us)) (sym k) ∙ take-append-add w us (n - length w) in
+    let t : take n (w ++ us) ≡ w ++ take (n - length w) us = ap (λ (j : ℕ). take j (w ++ us)) (sym k)
+    ∙ take-append-add w us (n - length w) in
     rw (take-all n w h) (sym t))
     (lt-or-ge n (length w))
 
@@ -169,7 +172,8 @@ gone-through (suc n) held raw p e c h =
     (after, gone-ended n held raw p e c t after g))
     (λ t. (raw ++ p, gone-on n held raw p e c t))
 
-all-through : (ps : List (List ℕ)) (held raw : List ℕ) → held ≡ kept raw → Clean raw → linesThrough held ps ≡ map kept (linesOf (raw ++ inOne ps))
+all-through : (ps : List (List ℕ)) (held raw : List ℕ) → held ≡ kept raw → Clean raw
+    → linesThrough held ps ≡ map kept (linesOf (raw ++ inOne ps))
 unfolding linesThrough inOne
 all-through [] held raw e c =
     ap unlessEmpty e

@@ -26,14 +26,16 @@ module _ (held : ℕ) (s : List ℕ) {end more : ℕ} (e : end ≡ length (upTo 
       ⊎-elim
       (λ h.
       let n : more ≡ 1201 - held = omega arith in
-      let t : take (1201 - held) (take (length (upTo 10 s)) s) ≡ take (1201 - held) s = take-take (1201 - held) (length (upTo 10 s)) s (omega arith) in
+      let t : take (1201 - held) (take (length (upTo 10 s)) s) ≡ take (1201 - held) s =
+      take-take (1201 - held) (length (upTo 10 s)) s (omega arith) in
       rw n (sym t ∙ ap (take (1201 - held)) (take-up 10 s)))
       (λ h.
       let n : more ≡ length (upTo 10 s) = omega arith in
       rw n (take-up 10 s ∙ sym (take-all (1201 - held) (upTo 10 s) (omega arith))))
       (lt-or-ge (1201 - held) end)
 
-  pub line-kept : (line : List ℕ) {line' : List ℕ} → line' ≡ putPart line held (part s 0 more) → line' ≡ putPart line held (takenOver held s)
+  pub line-kept : (line : List ℕ) {line' : List ℕ} → line' ≡ putPart line held (part s 0 more)
+      → line' ≡ putPart line held (takenOver held s)
   line-kept line g = g ∙ ap (putPart line held) over-is
 
   pub line-ended : end < length s → record { used = end + 1; kept = held + more; ended = true } ≡ takenFrom held s

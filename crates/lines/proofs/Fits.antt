@@ -37,7 +37,8 @@ typed-fits b text t k =
     let e = ap length (t .bytes-are) ∙ length-append text (drop (0 + length text) b) in
     omega (arith, length-drop (0 + length text) b, t .place-is)
 
-module _ {m after : Memory} {w : Command} {out written : List ℕ} {r : ℕ} (a : Answered m w out r after written) (k : length written ≡ length out) where
+module _ {m after : Memory} {w : Command} {out written : List ℕ} {r : ℕ} (a : Answered m w out r after written)
+    (k : length written ≡ length out) where
   pub answer-fits : r ≤ length written
   answer-fits = omega (arith, typed-fits out (printed m w) (a .prints) k)
 

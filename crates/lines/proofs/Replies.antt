@@ -36,7 +36,8 @@ put-said : (m after : Memory) (key : List ℕ) (frame : ℕ) (x : Added) → did
 unfolding printed
 put-said m after key frame x e = ap (λ (d : Did). unlessRefused (d .answer) okLine) e
 
-del-said : (m after : Memory) (key : List ℕ) (x : Removed) → did (saidRemoved x) after ≡ removed m key → unlessRefused (saidRemoved x) okLine ≡ printed m (del key)
+del-said : (m after : Memory) (key : List ℕ) (x : Removed) → did (saidRemoved x) after ≡ removed m key
+    → unlessRefused (saidRemoved x) okLine ≡ printed m (del key)
 unfolding printed
 del-said m after key x e = ap (λ (d : Did). unlessRefused (d .answer) okLine) e
 
@@ -56,7 +57,8 @@ module _ {m after : Memory} {out written : List ℕ} {r : ℕ} where
     unfolding left unlessRefused
     put-few-nodes d t = record { leaves = ap (λ (d : Did). d .after) e; prints = rw (← put-said m after key frame x e, d) t }
 
-    pub put-refused : {why : Refusal} → x ≡ added-is.Refused why → Typed out 0 (refusedLine (numberOf why)) r written → Answered m (put key frame) out r after written
+    pub put-refused : {why : Refusal} → x ≡ added-is.Refused why → Typed out 0 (refusedLine (numberOf why)) r written
+        → Answered m (put key frame) out r after written
     unfolding left unlessRefused
     put-refused {why} d t =
         record { leaves = ap (λ (d : Did). d .after) e; prints = rw (← put-said m after key frame x e, d, not-zero why) t }
@@ -66,16 +68,19 @@ module _ {m after : Memory} {out written : List ℕ} {r : ℕ} where
     unfolding left unlessRefused
     del-ok d t = record { leaves = ap (λ (d : Did). d .after) e; prints = rw (← del-said m after key x e, d) t }
 
-    pub del-refused : {why : Refusal} → x ≡ removed-is.Refused why → Typed out 0 (refusedLine (numberOf why)) r written → Answered m (del key) out r after written
+    pub del-refused : {why : Refusal} → x ≡ removed-is.Refused why → Typed out 0 (refusedLine (numberOf why)) r written
+        → Answered m (del key) out r after written
     unfolding left unlessRefused
     del-refused {why} d t =
         record { leaves = ap (λ (d : Did). d .after) e; prints = rw (← del-said m after key x e, d, not-zero why) t }
 
 module _ (m : Memory) {out written : List ℕ} {r : ℕ} (key : List ℕ) {x : Found} (e : saidFound x ≡ findSaid m key) where
-  pub find-frame : {frame : ℕ} → x ≡ found-is.Frame frame → Typed out 0 (numberLine frame) r written → Typed out 0 (printed m (find key)) r written
+  pub find-frame : {frame : ℕ} → x ≡ found-is.Frame frame → Typed out 0 (numberLine frame) r written
+      → Typed out 0 (printed m (find key)) r written
   unfolding unlessRefused
   find-frame d t = rw (← find-said m key x e, d) t
 
-  pub find-refused : {why : Refusal} → x ≡ found-is.Refused why → Typed out 0 (refusedLine (numberOf why)) r written → Typed out 0 (printed m (find key)) r written
+  pub find-refused : {why : Refusal} → x ≡ found-is.Refused why → Typed out 0 (refusedLine (numberOf why)) r written
+      → Typed out 0 (printed m (find key)) r written
   unfolding unlessRefused
   find-refused {why} d t = rw (← find-said m key x e, d, not-zero why) t

@@ -99,7 +99,8 @@ module _ {x : Line} {b' : List ℕ} (b : List ℕ) (w : Command) (e : heard x b'
   del-count {n} d = sym (length-take-le n b' (is-del b w e d .1))
 
   module _ {m after : Memory} {out written : List ℕ} {r : ℕ} where
-    pub put-answered : {n f : ℕ} → x ≡ line-is.Put n f → Answered m (put (take n b') f) out r after written → Answered m w out r after written
+    pub put-answered : {n f : ℕ} → x ≡ line-is.Put n f → Answered m (put (take n b') f) out r after written
+        → Answered m w out r after written
     put-answered d a = rw (is-put b w e d .0) a
 
     pub del-answered : {n : ℕ} → x ≡ line-is.Del n → Answered m (del (take n b')) out r after written → Answered m w out r after written

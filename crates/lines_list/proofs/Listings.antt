@@ -60,7 +60,8 @@ module _ (m : Memory) (k : ℕ) (tree : isTree m ≡ true) (x : Listed) (e : sai
       absurd (omega arith))
 
   pub kth-cell : {c l f : ℕ} → x ≡ listed-is.Entry c l f
-      → (c ≡ getD (inKeyOrder m) k 0) × (l ≡ markAt (m .cells) (getD (inKeyOrder m) k 0) - 1) × (f ≡ frameAt (m .cells) (getD (inKeyOrder m) k 0))
+      → (c ≡ getD (inKeyOrder m) k 0) × (l ≡ markAt (m .cells) (getD (inKeyOrder m) k 0) - 1)
+      × (f ≡ frameAt (m .cells) (getD (inKeyOrder m) k 0))
   kth-cell d =
       let z = ap (λ (a : Answer). a .values) (sym (ap saidListed d) ∙ number-there (kth-there d)) in
       (ap (λ (l : List ℕ). getD l 0 0) z, ap (λ (l : List ℕ). getD l 1 0) z, ap (λ (l : List ℕ). getD l 2 0) z)
@@ -95,12 +96,14 @@ texts-some m cs k =
     let e = ap length (ap (entryTexts m) (sym (take-append-drop k cs)) ∙ texts-append m (take k cs) (drop k cs)) in
     omega (arith, e, length-append (entryTexts m (take k cs)) (entryTexts m (drop k cs)))
 
-module _ (m : Memory) (at k : ℕ) (tree : isTree m ≡ true) {x : Listed} (e : saidListed x ≡ kthSaid m k) {c l f : ℕ} (d : x ≡ listed-is.Entry c l f)
+module _ (m : Memory) (at k : ℕ) (tree : isTree m ≡ true) {x : Listed} (e : saidListed x ≡ kthSaid m k) {c l f : ℕ}
+    (d : x ≡ listed-is.Entry c l f)
     (key : List ℕ) (ek : key ≡ part (m .bytes) (c * 256) l) where
   text-is : entryLine key f ≡ entryText m (getD (inKeyOrder m) k 0)
   text-is = let g = kth-cell m k tree x e d in rw (ek, g .0, g .1, g .2) refl
 
-  module _ {o o1 : List ℕ} {r : ℕ} (t : Typed o at (entryTexts m (take k (inKeyOrder m))) r o1) (room : at + length (entryTexts m (inKeyOrder m)) ≤ length o) where
+  module _ {o o1 : List ℕ} {r : ℕ} (t : Typed o at (entryTexts m (take k (inKeyOrder m))) r o1)
+      (room : at + length (entryTexts m (inKeyOrder m)) ≤ length o) where
     more-fits : at + length (entryTexts m (take k (inKeyOrder m)) ++ entryLine key f) ≤ length o
     more-fits =
         let s = texts-some m (inKeyOrder m) (k + 1) in
@@ -111,7 +114,8 @@ module _ (m : Memory) (at k : ℕ) (tree : isTree m ≡ true) {x : Listed} (e : 
     entry-room s =
         omega (arith, more-fits, length-append (entryTexts m (take k (inKeyOrder m))) (entryLine key f), t .place-is)
 
-    pub entry-again : {r1 : ℕ} {o2 : List ℕ} → Typed o1 r (entryLine key f) r1 o2 → Typed o at (entryTexts m (take (k + 1) (inKeyOrder m))) r1 o2
+    pub entry-again : {r1 : ℕ} {o2 : List ℕ} → Typed o1 r (entryLine key f) r1 o2
+        → Typed o at (entryTexts m (take (k + 1) (inKeyOrder m))) r1 o2
     entry-again u =
         rw (texts-more m (inKeyOrder m) k (kth-there m k tree x e d), ← text-is) (typed-then _ (entryLine key f) more-fits t u)
 
@@ -125,7 +129,8 @@ module _ {o : List ℕ} {at : ℕ} (m : Memory) where
   entries-done {k} e h t = rw (take-all k (inKeyOrder m) (omega arith)) at t
 
   -- a tree has the k-th entry for every k below their number
-  pub entries-cut : {k n r : ℕ} {o1 : List ℕ} {x : Listed} {why : Refusal} → isTree m ≡ true → saidListed x ≡ kthSaid m k → x ≡ listed-is.Refused why
+  pub entries-cut : {k n r : ℕ} {o1 : List ℕ} {x : Listed} {why : Refusal} → isTree m ≡ true → saidListed x ≡ kthSaid m k
+      → x ≡ listed-is.Refused why
       → n ≡ length (inKeyOrder m) → k < n → Typed o at (entryTexts m (inKeyOrder m)) r o1
   entries-cut {k} {x = x} tree e d h l = absurd (omega (arith, kth-gone m k tree x e d))
 
@@ -150,9 +155,11 @@ module _ (m : Memory) {b : Bool} (e : b ≡ isTree m) where
     pub header-room : 0 + length (headerLine n) ≤ length out
     header-room = omega (arith, whole, length-append (headerLine n) (entryTexts m (inKeyOrder m)))
 
-    pub entries-room : {r : ℕ} {o1 : List ℕ} → length o1 ≡ length out → Typed out 0 (headerLine n) r o1 → r + length (entryTexts m (inKeyOrder m)) ≤ length o1
+    pub entries-room : {r : ℕ} {o1 : List ℕ} → length o1 ≡ length out → Typed out 0 (headerLine n) r o1
+        → r + length (entryTexts m (inKeyOrder m)) ≤ length o1
     entries-room s u =
         omega (arith, whole, length-append (headerLine n) (entryTexts m (inKeyOrder m)), u .place-is)
 
-    pub list-done : {r r1 : ℕ} {o1 o2 : List ℕ} → Typed out 0 (headerLine n) r o1 → Typed o1 r (entryTexts m (inKeyOrder m)) r1 o2 → Typed out 0 (listed m) r1 o2
+    pub list-done : {r r1 : ℕ} {o1 o2 : List ℕ} → Typed out 0 (headerLine n) r o1 → Typed o1 r (entryTexts m (inKeyOrder m)) r1 o2
+        → Typed out 0 (listed m) r1 o2
     list-done u v = rw (listed-is' t, ← en) (typed-then (headerLine n) (entryTexts m (inKeyOrder m)) whole u v)

@@ -22,5 +22,6 @@ few-nodes-room k = refused-room (omega arith) k
 pub number-room : {n l : ℕ} → n < 2 ^ 64 → 100 ≤ l → 0 + length (numberLine n) ≤ l
 number-room {n} h k = omega (arith, digits-room h, number-length n)
 
-pub refused-as : {out o : List ℕ} {n r : ℕ} (why : Refusal) → n ≡ numberOf why → Typed out 0 (refusedLine n) r o → Typed out 0 (refusedLine (numberOf why)) r o
+pub refused-as : {out o : List ℕ} {n r : ℕ} (why : Refusal) → n ≡ numberOf why → Typed out 0 (refusedLine n) r o
+    → Typed out 0 (refusedLine (numberOf why)) r o
 refused-as why e t = rw e at t

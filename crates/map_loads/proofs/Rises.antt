@@ -55,7 +55,8 @@ abbrev pub tells-put : Memory → List ℕ → ℕ → List ℕ
 tells-put m key x = restsIn (more m key x) key
 
 -- the next entry is put behind the others, or there is no room for it
-module _ (m : Memory) (xs : Map) (l : Lists m xs) (key : List ℕ) (x : ℕ) (below : Below key xs) (k : Bytes key) (short : length key ≤ 256) where
+module _ (m : Memory) (xs : Map) (l : Lists m xs) (key : List ℕ) (x : ℕ) (below : Below key xs) (k : Bytes key)
+    (short : length key ≤ 256) where
   -- what the put comes to
   abbrev Next : Type 0
   Next =

@@ -2,7 +2,9 @@
 use mathlib.Core.Path.{_≡_, refl, sym, ap, ap₂, _∙_}
 use mathlib.Core.List.{List, [], _∷_, _++_}
 use Prim.Native.Nat.{ℕ, zero, suc, _+_, _-_, _*_, _/_, _%_, _^_, _≤_, _<_}
-use native.Mathlib.Nat.{le-of-suc-le-suc, not-suc-le-zero, add-assoc, add-mul, mul-assoc, mul-one, mul-suc, mod-eq-of-lt, mod-lt, mod-one, div-one, sub-zero, suc-sub-suc, div-div-eq-div-mul, mul-comm, add-zero, one-mul, lt-of-lt-of-le, le-trans, le-of-eq, zero-lt-suc, zero-add, suc-add}
+use native.Mathlib.Nat.{le-of-suc-le-suc, not-suc-le-zero, add-assoc, add-mul, mul-assoc, mul-one, mul-suc, mod-eq-of-lt, mod-lt, mod-one}
+use native.Mathlib.Nat.{div-one, sub-zero, suc-sub-suc, div-div-eq-div-mul, mul-comm, add-zero, one-mul, lt-of-lt-of-le, le-trans, le-of-eq}
+use native.Mathlib.Nat.{zero-lt-suc, zero-add, suc-add}
 use native.Mathlib.Omega.{arith}
 use lib.ListN.{length, getD, take, drop}
 use lib.Arith.{mod-mul, digits-lt, digits-div, digits-mod}

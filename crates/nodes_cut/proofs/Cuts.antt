@@ -11,7 +11,8 @@ use Rattle.leaf_entries.specs.declared.Entry.{Entry}
 use Rattle.leaf.specs.Cut.{ikeyOf, differs, outward, cutOf}
 
 module _ (es : List Entry) (far : ℕ) (l : far < 8) (e : cutOf es ≡ outward (differs es) 8 far (8 - far)) where
-  opened : cutOf es ≡ cond (differs es (8 - far)) (8 - far) (cond (differs es (8 + far)) (8 + far) (outward (differs es) 8 (suc far) (8 - suc far)))
+  opened : cutOf es ≡ cond (differs es (8 - far)) (8 - far)
+      (cond (differs es (8 + far)) (8 + far) (outward (differs es) 8 (suc far) (8 - suc far)))
   unfolding outward
   opened = e ∙ ap (outward (differs es) 8 far) (let z : 8 - far ≡ suc (8 - suc far) = omega arith in z)
 

@@ -14,7 +14,8 @@ use Rattle.arena.specs.Parts.{part, putPart}
 use Rattle.arena.proofs.Words.{put-put, set-put, part-all, copy-none}
 use Rattle.text.proofs.Keys.{decide}
 use Rattle.page.specs.Page.{Typed}
-use Rattle.page.specs.Shown.{decimal, lastDigits, hexOf, hexDigit, keyShown, refusedWord, entriesWord, refusedLine, numberLine, headerLine, entryLine}
+use Rattle.page.specs.Shown.{decimal, lastDigits, hexOf, hexDigit, keyShown, refusedWord, entriesWord, refusedLine, numberLine}
+use Rattle.page.specs.Shown.{headerLine, entryLine}
 
 module _ {o : List ℕ} {at : ℕ} where
   -- nothing, and one byte
@@ -127,19 +128,23 @@ pub letter-shown : {n : ℕ} → 10 ≤ n → 97 - 10 + n ≡ hexDigit n
 unfolding hexDigit
 letter-shown {n} h = rw (le-ltb n 10 h)
 
-pub key-empty : {o : List ℕ} {at : ℕ} (s : List ℕ) {r : ℕ} {o' : List ℕ} → length s ≡ 0 → Typed o at (45 ∷ []) r o' → Typed o at (keyShown s) r o'
+pub key-empty : {o : List ℕ} {at : ℕ} (s : List ℕ) {r : ℕ} {o' : List ℕ} → length s ≡ 0 → Typed o at (45 ∷ []) r o'
+    → Typed o at (keyShown s) r o'
 unfolding keyShown
 key-empty [] e t = t
 key-empty (b ∷ bs) e t = absurd (omega arith)
 
-pub key-hex : {o : List ℕ} {at : ℕ} (s : List ℕ) {r : ℕ} {o' : List ℕ} → (length s ≡ 0 → ⊥) → Typed o at (hexOf s) r o' → Typed o at (keyShown s) r o'
+pub key-hex : {o : List ℕ} {at : ℕ} (s : List ℕ) {r : ℕ} {o' : List ℕ} → (length s ≡ 0 → ⊥) → Typed o at (hexOf s) r o'
+    → Typed o at (keyShown s) r o'
 unfolding keyShown
 key-hex [] e t = absurd (e refl)
 key-hex (b ∷ bs) e t = t
 
-pub hex-again : {o : List ℕ} {at : ℕ} (s : List ℕ) (i : ℕ) {r r1 r2 : ℕ} {o1 o2 o3 : List ℕ} {b c : ℕ} → at + 2 * length s ≤ length o → i < length s
+pub hex-again : {o : List ℕ} {at : ℕ} (s : List ℕ) (i : ℕ) {r r1 r2 : ℕ} {o1 o2 o3 : List ℕ} {b c : ℕ} → at + 2 * length s ≤ length o
+    → i < length s
     → b ≡ hexDigit (getD s i 0 / 16) → c ≡ hexDigit (getD s i 0 % 16)
-    → Typed o at (hexOf (take i s)) r o1 → Typed o1 r (b ∷ []) r1 o2 → Typed o2 r1 (c ∷ []) r2 o3 → Typed o at (hexOf (take (i + 1) s)) r2 o3
+    → Typed o at (hexOf (take i s)) r o1 → Typed o1 r (b ∷ []) r1 o2 → Typed o2 r1 (c ∷ []) r2 o3
+    → Typed o at (hexOf (take (i + 1) s)) r2 o3
 hex-again s i h k e f t u v =
     let l = hex-length (take i s) ∙ ap (λ (n : ℕ). 2 * n) (length-take-le i s (omega arith)) in
     let x = hexDigit (getD s i 0 / 16) ∷ [] in
@@ -180,11 +185,13 @@ unfolding entryLine
 entry-length key frame = simp length-append
 
 module _ {o : List ℕ} {at r r1 : ℕ} {o1 o2 : List ℕ} where
-  pub number-typed : (n : ℕ) → at + length (numberLine n) ≤ length o → Typed o at (decimal n) r o1 → Typed o1 r (10 ∷ []) r1 o2 → Typed o at (numberLine n) r1 o2
+  pub number-typed : (n : ℕ) → at + length (numberLine n) ≤ length o → Typed o at (decimal n) r o1 → Typed o1 r (10 ∷ []) r1 o2
+      → Typed o at (numberLine n) r1 o2
   unfolding numberLine
   number-typed n h t u = typed-then (decimal n) _ h t u
 
-  pub header-typed : (n : ℕ) → at + length (headerLine n) ≤ length o → Typed o at (decimal n) r o1 → Typed o1 r entriesWord r1 o2 → Typed o at (headerLine n) r1 o2
+  pub header-typed : (n : ℕ) → at + length (headerLine n) ≤ length o → Typed o at (decimal n) r o1 → Typed o1 r entriesWord r1 o2
+      → Typed o at (headerLine n) r1 o2
   unfolding headerLine
   header-typed n h t u = typed-then (decimal n) _ h t u
 

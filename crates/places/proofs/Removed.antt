@@ -191,7 +191,8 @@ module _ (m : Memory) (v : Layers) (t : Forest m v) (bytes : Bytes (m .bytes)) (
 
   -- ---- what it frees
 
-  -- the entry's cell, which has the key, and no node: memory after it has the cell zeroed, every other cell as it was, and the same nodes free
+  -- the entry's cell, which has the key, and no node: memory after it has the cell zeroed, every other cell as it was, and the same nodes
+  -- free
   abbrev pub FreesCell : Memory → ℕ → Type 0
   FreesCell after c =
       (keyAt (m .cells) (m .bytes) c ≡ K) × (1 ≤ markAt (m .cells) c)

@@ -73,7 +73,8 @@ module _ (nodes : List ℕ) (N : ℕ) (whole : length nodes ≡ 2 + N * 47) (k :
       (still, ap (map seenAs) entries ∙ e)
   holds-longer (suc h) t (right, edges, children, below) =
       let inside = internode-inside nodes N whole (t .0) right in
-      let (still, (ikeys, kids)) = internode-same nodes longer (t .0) (fits (t .0) inside) (fits-longer (t .0) inside) (same (t .0) inside) right in
+      let (still, (ikeys, kids)) = internode-same nodes longer (t .0) (fits (t .0) inside) (fits-longer (t .0) inside)
+      (same (t .0) inside) right in
       (still, ap (map suc) ikeys ∙ edges, kids ∙ children, all-map (λ p. holds-longer h (p .1)) below)
 
   held-by-longer : (l : ℕ) (x : Value l) → HeldBy nodes l x → HeldBy longer l x

@@ -128,7 +128,8 @@ module _ (M : NodeList Pointer) (ikey : ℕ) where
         length-map (map (childView h) (t .1)) (numbered (treeRoot Pointer h)),
         e,
       )
-      (through-child h (cond (leb n 15) 0 (suc more)) (t .1) (omega (arith, low .0)) (go (λ p c d. upward h (p .0) c d (p .1)) (t .1) (holds .1) (low .2)
+      (through-child h (cond (leb n 15) 0 (suc more)) (t .1) (omega (arith, low .0))
+      (go (λ p c d. upward h (p .0) c d (p .1)) (t .1) (holds .1) (low .2)
       (each-child (good .0)))
       ∙ ap (counted way) (internode-count n more (omega (arith, good .1)))
       ∙ sym (counted-more way (eqb n 16) more))
@@ -225,13 +226,15 @@ module _ (m : Memory) (sound : Sound m) (at : ℕ → List ℕ × ℕ) (c : ℕ)
           → layersNeed 15 at K l (pathDown K ks) (layerRoot l (layerView l w)) M
           ≡ neededFrom (m .cells) (m .bytes) K l (length (pathDown K ks)) w)
           → fromOption
-          (memoryNeeds Pointer 15 (heightIn M (layerRoot (suc l) (layerView (suc l) v))) ((layerKey ks K) .0) (0, layerRoot (suc l) (layerView (suc l) v)) M 1)
+          (memoryNeeds Pointer 15 (heightIn M (layerRoot (suc l) (layerView (suc l) v))) ((layerKey ks K) .0)
+          (0, layerRoot (suc l) (layerView (suc l) v)) M 1)
           (byPointer (λ b. conflictCount K (cellKey at b) l (pathDown K ks)) (λ q. layersNeed 15 at K l (pathDown K ks) q M))
           (mapOption (pointerOf (suc l)) (mapOption (valueView (suc l)) o))
           ≡ fromOption (neededInLayer (ikeyAt K (8 * length ks)) (v .0)) (neededAtEntry (m .cells) (m .bytes) K (suc l) (length ks)) o
       go none q below = in-layer (suc l) v ks k
       go (some (inl b)) q below =
-          let C = conflicting m sound at c l (layerView (suc l) v) ks k b (entry-view (suc l) v ks ∙ ap (mapOption (valueView (suc l))) q) in
+          let C = conflicting m sound at c l (layerView (suc l) v) ks k b
+          (entry-view (suc l) v ks ∙ ap (mapOption (valueView (suc l))) q) in
           let z : l ≡ 31 - suc (length ks) = omega (arith, k .deep) in
           sym (layers-chain at K (cellKey at b) (C .apart) l (pathDown K ks) (C .fits-on) (C .other-on))
           ∙ ap (layersOf l K (cellKey at b)) (down-length K ks (length ks) refl)

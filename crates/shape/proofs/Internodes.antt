@@ -90,7 +90,8 @@ module _ (nodes : List ℕ) (k : ℕ) where
 module _ (nodes : List ℕ) where
   first-child : (n : ℕ) → getD (childrenAt nodes n) 0 0 ≡ getD nodes (nodeStart n + 17) 0
   unfolding childrenAt
-  first-child n = part-at nodes (nodeStart n + 17) (getD nodes (nodeStart n + 1) 0 + 1) 0 (omega arith) ∙ ap (λ (i : ℕ). getD nodes i 0) (add-zero (nodeStart n + 17))
+  first-child n = part-at nodes (nodeStart n + 17) (getD nodes (nodeStart n + 1) 0 + 1) 0 (omega arith)
+      ∙ ap (λ (i : ℕ). getD nodes i 0) (add-zero (nodeStart n + 17))
 
   no-internode : (most n : ℕ) → (kindAt nodes n ≡ 2 → ⊥) → heightAt nodes most n ≡ 0
   unfolding heightAt

@@ -116,7 +116,8 @@ module _ (key above : List ℕ) (links : ℕ) (fits : links ≤ length above) wh
 
   module _ {i : ℕ} (e : under key 0 (take links above) ≡ under key (8 * i) (drop i (take links above))) where
     step : i < links → under key 0 (take links above)
-        ≡ (eqb (ikeyAt key (8 * i)) (getD above i 0) && (ltb (8 * i + 8) (length key) && under key (8 * i + 8) (drop (suc i) (take links above))))
+        ≡ (eqb (ikeyAt key (8 * i)) (getD above i 0)
+        && (ltb (8 * i + 8) (length key) && under key (8 * i + 8) (drop (suc i) (take links above))))
     unfolding under
     step l =
         e
@@ -140,7 +141,8 @@ module _ (key above : List ℕ) (links : ℕ) (fits : links ≤ length above) wh
 
         pub under-next : 8 * links < length key → under key 0 (take links above) ≡ under key (8 * (i + 1)) (drop (i + 1) (take links above))
         under-next h =
-            stepped ∙ ap (λ (b : Bool). b && under key (8 * i + 8) (drop (suc i) (take links above))) (lt-ltb (8 * i + 8) (length key) (omega arith))
+            stepped ∙ ap (λ (b : Bool). b && under key (8 * i + 8) (drop (suc i) (take links above)))
+            (lt-ltb (8 * i + 8) (length key) (omega arith))
             ∙ ap₂ (λ (o n : ℕ). under key o (drop n (take links above)))
             (let z : 8 * i + 8 ≡ 8 * (i + 1) = omega arith in z) (let z : suc i ≡ i + 1 = omega arith in z)
 

@@ -31,7 +31,12 @@ use Rattle.zeros.proofs.Zeros.{or-none}
 
 pub entry-read : (nodes : List ℕ) (k slot : ℕ)
     → _≡_ {A = Entry}
-    (record { ikey = getD nodes (2 + k * 47 + 2 + slot) 0; class = getD nodes (2 + k * 47 + 17 + slot) 0; at = getD nodes (2 + k * 47 + 32 + slot) 0 })
+    (record {
+      ikey = getD nodes (2 + k * 47 + 2 + slot) 0;
+      class = getD nodes (2 + k * 47 + 17 + slot) 0;
+      at =
+          getD nodes (2 + k * 47 + 32 + slot) 0;
+    })
     (entryAt nodes k slot)
 entry-read nodes k slot =
     let a : 2 + k * 47 + 2 + slot ≡ 2 + k * 47 + (2 + slot) = omega arith in
@@ -105,19 +110,23 @@ module _ (nodes : List ℕ) (k word : ℕ) (v : validWord 15 word ≡ true) (w :
     pub order-not : not r ≡ true → false ≡ rising (entriesAt nodes k)
     order-not n =
         rising-not (entriesAt nodes k) (i - 1) (omega (arith, used-length nodes k word v w))
-        (ap (λ (m : ℕ). less (getD (entriesAt nodes k) (i - 1) none) (getD (entriesAt nodes k) m none)) (let z : suc (i - 1) ≡ i = omega arith in z)
+        (ap (λ (m : ℕ). less (getD (entriesAt nodes k) (i - 1) none) (getD (entriesAt nodes k) m none))
+        (let z : suc (i - 1) ≡ i = omega arith in z)
         ∙ pair-here ∙ not-true r n)
 
     pub order-next : ((j : ℕ) → j < i → 1 ≤ j → less (getD (entriesAt nodes k) (j - 1) none) (getD (entriesAt nodes k) j none) ≡ true)
-        → not r ≡ false → (j : ℕ) → j < i + 1 → 1 ≤ j → less (getD (entriesAt nodes k) (j - 1) none) (getD (entriesAt nodes k) j none) ≡ true
+        → not r ≡ false → (j : ℕ) → j < i + 1 → 1 ≤ j
+        → less (getD (entriesAt nodes k) (j - 1) none) (getD (entriesAt nodes k) j none) ≡ true
     order-next f n = below-more _ i f (λ h. pair-here ∙ not-false r n)
 
-  pub order-all : (i : ℕ) → size ≤ i → ((j : ℕ) → j < i → 1 ≤ j → less (getD (entriesAt nodes k) (j - 1) none) (getD (entriesAt nodes k) j none) ≡ true)
+  pub order-all : (i : ℕ) → size ≤ i → ((j : ℕ) → j < i → 1 ≤ j
+      → less (getD (entriesAt nodes k) (j - 1) none) (getD (entriesAt nodes k) j none) ≡ true)
       → true ≡ rising (entriesAt nodes k)
   order-all i l f =
       sym (rising-if (entriesAt nodes k)
       (λ j h. less-weight (getD (entriesAt nodes k) j none) (getD (entriesAt nodes k) (suc j) none)
-      (ap (λ (n : ℕ). less (getD (entriesAt nodes k) n none) (getD (entriesAt nodes k) (suc j) none)) (let z : j ≡ suc j - 1 = omega arith in z)
+      (ap (λ (n : ℕ). less (getD (entriesAt nodes k) n none) (getD (entriesAt nodes k) (suc j) none))
+      (let z : j ≡ suc j - 1 = omega arith in z)
       ∙ f (suc j) (omega (arith, used-length nodes k word v w)) (omega arith))))
 
 -- ---- the slots that are not in use, of which some are left
@@ -133,7 +142,8 @@ every-more (e ∷ es) zero l = and-true (isZero e)
     and-true true = refl
     and-true false = refl
 every-more (e ∷ es) (suc n) l =
-    ap (λ (b : Bool). isZero e && b) (every-more es n (le-of-suc-le-suc l)) ∙ grouped (isZero e) (every isZero (take n es)) (isZero (getD es n none))
+    ap (λ (b : Bool). isZero e && b) (every-more es n (le-of-suc-le-suc l))
+    ∙ grouped (isZero e) (every isZero (take n es)) (isZero (getD es n none))
   where
     grouped : (a b c : Bool) → (a && (b && c)) ≡ ((a && b) && c)
     grouped true b c = refl

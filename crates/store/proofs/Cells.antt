@@ -43,7 +43,8 @@ module _ (cells bytes : List ℕ) (c : ℕ) where
       let y : c * 256 - c * 256 ≡ 0 = omega arith in
       rw (z, y)
 
-  pub key-rest : length bytes - c * 256 ≤ getD cells (c * 2) 0 - 1 → take (length bytes - c * 256) (drop (c * 256) bytes) ≡ keyAt cells bytes c
+  pub key-rest : length bytes - c * 256 ≤ getD cells (c * 2) 0 - 1
+      → take (length bytes - c * 256) (drop (c * 256) bytes) ≡ keyAt cells bytes c
   unfolding part
   key-rest l =
       take-all (length bytes - c * 256) (drop (c * 256) bytes) (simp length-drop (omega arith))

@@ -43,9 +43,11 @@ module _ (nodes cells bytes : List ℕ) {met : Met} (l : Lent nodes cells bytes 
   lent-few = rw (counted (length nodes) (l .nodes-lent)) (l .nodes-lent .few)
 
 module _ (nodes cells bytes key : List ℕ) (c : ℕ) {met : Met} (l : Lent nodes cells bytes met) where
-  pub put-conflict : {leaf p cell links holder : ℕ} {other n1 n2 : List ℕ} → met ≡ Conflict leaf p cell links → other ≡ keyAt cells bytes cell
+  pub put-conflict : {leaf p cell links holder : ℕ} {other n1 n2 : List ℕ} → met ≡ Conflict leaf p cell links
+      → other ≡ keyAt cells bytes cell
       → n1 ≡ set nodes (nodeStart leaf + 17 + slotAt p (slotsAt nodes leaf)) 10 → holder ≡ numberWord nodes leaf p
-      → n2 ≡ layersGrown (31 - (links + 1)) n1 (length nodes / 47) holder (record { key = key; cell = c }) (record { key = other; cell = cell }) (links + 1)
+      → n2 ≡ layersGrown (31 - (links + 1)) n1 (length nodes / 47) holder (record { key = key; cell = c })
+      (record { key = other; cell = cell }) (links + 1)
       → n2 ≡ nodesWith (memory nodes cells bytes) key c met
   put-conflict {links = links} q o e1 eh e2 = rw (q, e2, e1, eh, o, add-one links, counted (length nodes) (l .nodes-lent))
 

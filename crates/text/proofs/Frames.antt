@@ -99,5 +99,6 @@ module _ (s : List ℕ) where
   pub frame-single : {x : Frame} → length s ≡ 1 → x ≡ frameIf (isDecimal s) s → x ≡ frameIf (isFrame s) s
   frame-single e f = rw (frame-one e) f
 
-  pub frame-several : {x : Frame} → (length s ≡ 0 → ⊥) → (length s ≡ 1 → ⊥) → (getD s 0 0 ≡ 48 → ⊥) → x ≡ frameIf (isDecimal s) s → x ≡ frameIf (isFrame s) s
+  pub frame-several : {x : Frame} → (length s ≡ 0 → ⊥) → (length s ≡ 1 → ⊥) → (getD s 0 0 ≡ 48 → ⊥) → x ≡ frameIf (isDecimal s) s
+      → x ≡ frameIf (isFrame s) s
   frame-several z h e f = rw (frame-more z h e) f

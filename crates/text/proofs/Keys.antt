@@ -54,14 +54,16 @@ module _ (xs ys : List ℕ) where
   pub same-not : (length xs ≡ length ys → ⊥) → false ≡ same xs ys
   same-not h = sym (same-length xs ys h)
 
-  pub same-differ : {i : ℕ} → length xs ≡ length ys → same xs ys ≡ same (drop i xs) (drop i ys) → i < length xs → (getD xs i 0 ≡ getD ys i 0 → ⊥) → false ≡ same xs ys
+  pub same-differ : {i : ℕ} → length xs ≡ length ys → same xs ys ≡ same (drop i xs) (drop i ys) → i < length xs
+      → (getD xs i 0 ≡ getD ys i 0 → ⊥) → false ≡ same xs ys
   same-differ {i} l e h d = sym (e ∙ same-here xs ys i h (omega arith) d)
 
   pub same-again : {i : ℕ} → length xs ≡ length ys → same xs ys ≡ same (drop i xs) (drop i ys) → i < length xs → getD xs i 0 ≡ getD ys i 0
       → same xs ys ≡ same (drop (i + 1) xs) (drop (i + 1) ys)
   same-again {i} l e h d = e ∙ same-more xs ys i h (omega arith) d
 
-  pub same-done : {i : ℕ} → length xs ≡ length ys → same xs ys ≡ same (drop i xs) (drop i ys) → i ≤ length xs → length xs ≤ i → true ≡ same xs ys
+  pub same-done : {i : ℕ} → length xs ≡ length ys → same xs ys ≡ same (drop i xs) (drop i ys) → i ≤ length xs → length xs ≤ i
+      → true ≡ same xs ys
   same-done {i} l e h k = sym (e ∙ same-end xs ys i (omega arith) l)
 
 -- ---- every byte
@@ -159,7 +161,8 @@ module _ (d s : List ℕ) where
   pub pairs-none : d ≡ putPart d 0 (part (pairs s) 0 0)
   pairs-none = copy-none d 0 (pairs s) 0
 
-  pub pairs-more : (i : ℕ) {key : List ℕ} {high low : ℕ} → key ≡ putPart d 0 (part (pairs s) 0 i) → 2 * i + 1 < length s → length s ≤ 2 * length d
+  pub pairs-more : (i : ℕ) {key : List ℕ} {high low : ℕ} → key ≡ putPart d 0 (part (pairs s) 0 i) → 2 * i + 1 < length s
+      → length s ≤ 2 * length d
       → high ≡ hexValue (getD s (2 * i) 0) → low ≡ hexValue (getD s (2 * i + 1) 0)
       → set key i (high * 16 + low) ≡ putPart d 0 (part (pairs s) 0 (i + 1))
   pairs-more i e h k eh el =
@@ -188,7 +191,8 @@ module _ (s : List ℕ) where
       no-middle true b = refl
       no-middle false b = refl
 
-  pub pairs-not : {i : ℕ} {r : Bool} → every isHex s ≡ every isHex (drop i s) → i < length s → r ≡ isHex (getD s i 0) → not r ≡ true → false ≡ isPairs s
+  pub pairs-not : {i : ℕ} {r : Bool} → every isHex s ≡ every isHex (drop i s) → i < length s → r ≡ isHex (getD s i 0) → not r ≡ true
+      → false ≡ isPairs s
   unfolding isPairs
   pairs-not {i} {r} e h f n =
       let g : every isHex s ≡ false = e ∙ every-no isHex s i h (sym f ∙ not-true r n) in
@@ -198,10 +202,12 @@ module _ (s : List ℕ) where
       no-last true = refl
       no-last false = refl
 
-  pub pairs-again : {i : ℕ} {r : Bool} → every isHex s ≡ every isHex (drop i s) → i < length s → r ≡ isHex (getD s i 0) → not r ≡ false → every isHex s ≡ every isHex (drop (i + 1) s)
+  pub pairs-again : {i : ℕ} {r : Bool} → every isHex s ≡ every isHex (drop i s) → i < length s → r ≡ isHex (getD s i 0) → not r ≡ false
+      → every isHex s ≡ every isHex (drop (i + 1) s)
   pairs-again {i} {r} e h f n = e ∙ every-more isHex s i h (sym f ∙ not-false r n)
 
-  pub pairs-right : {i : ℕ} → (length s ≡ 0 → ⊥) → length s % 2 ≡ 0 → every isHex s ≡ every isHex (drop i s) → i ≤ length s → length s ≤ i → true ≡ isPairs s
+  pub pairs-right : {i : ℕ} → (length s ≡ 0 → ⊥) → length s % 2 ≡ 0 → every isHex s ≡ every isHex (drop i s) → i ≤ length s → length s ≤ i
+      → true ≡ isPairs s
   unfolding isPairs
   pairs-right {i} n m e h k =
       let g : every isHex s ≡ true = e ∙ every-end isHex s i (omega arith) in

@@ -57,10 +57,12 @@ module _ (s d : List ℕ) (a : ℕ) (ea : a ≡ length (upTo 32 s)) where
           (sym (split-one 32 (from (b + 1) (from (a + 1) s)) ek h))
           ∙ ap (λ (fs : List (List ℕ)). taken (readFields fs) d) (sym last-split)
 
-      pub more-fields : {x : Heard} → (k ≡ length (from (b + 1) (from (a + 1) s)) → ⊥) → x ≡ heard line-is.Bad d → x ≡ taken (readFields (split 32 s)) d
+      pub more-fields : {x : Heard} → (k ≡ length (from (b + 1) (from (a + 1) s)) → ⊥) → x ≡ heard line-is.Bad d
+          → x ≡ taken (readFields (split 32 s)) d
       unfolding readFields putPart
       more-fields h e =
-          let f = last-split ∙ ap (λ (fs : List (List ℕ)). take a s ∷ take b (from (a + 1) s) ∷ fs) (split-more 32 (from (b + 1) (from (a + 1) s)) ek h) in
+          let f = last-split ∙ ap (λ (fs : List (List ℕ)). take a s ∷ take b (from (a + 1) s) ∷ fs)
+          (split-more 32 (from (b + 1) (from (a + 1) s)) ek h) in
           e ∙ ap (λ (fs : List (List ℕ)). taken (readFields fs) d) (sym f)
 
 module _ (s d : List ℕ) where

@@ -36,7 +36,8 @@ module _ (sep : ℕ) where
   up-le [] = omega arith
   up-le (b ∷ bs) = up-le-step (eqb b sep) b (upTo sep bs) bs (up-le bs)
 
-  take-step : (t : Bool) (b : ℕ) (us bs : List ℕ) → take (length us) bs ≡ us → take (length (cond t [] (b ∷ us))) (b ∷ bs) ≡ cond t [] (b ∷ us)
+  take-step : (t : Bool) (b : ℕ) (us bs : List ℕ) → take (length us) bs ≡ us
+      → take (length (cond t [] (b ∷ us))) (b ∷ bs) ≡ cond t [] (b ∷ us)
   take-step true b us bs h = refl
   take-step false b us bs h = ap (λ (l : List ℕ). b ∷ l) h
 

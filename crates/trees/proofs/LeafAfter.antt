@@ -32,13 +32,13 @@ module _ {C A : Type 0} {R : ℕ → ℕ → C → Type 0} (z : A) (g : ℕ × C
   before-low (lastChild e l r) = ap (ltb x) e
   before-low (andNext s e l r c) = ap (ltb x) e
 
-  -- children behind which x does not lie can be left out
+  -- children that begin beyond x can be left out
   leads-first : {lo s hi : ℕ} {ps qs : List (ℕ × C)} → Abutting R s lo ps → Abutting R hi s qs → x < s
       → ofChild z g x (ps ++ qs) ≡ ofChild z g x ps
   leads-first {s = s} (lastChild e l r) d h = rw (before-low d, lt-ltb x s h)
   leads-first (andNext t {p = p} {ps = q ∷ qs} e l r c) d h = ap (cond (ltb x (q .0)) (g p)) (leads-first c d h)
 
-  -- so can children before it
+  -- and so can one that ends before it
   leads-later : {lo hi : ℕ} (p : ℕ × C) {ps : List (ℕ × C)} → Abutting R hi lo ps → lo ≤ x → ofChild z g x (p ∷ ps) ≡ ofChild z g x ps
   leads-later {lo = lo} p c h = rw (before-low c, le-ltb x lo h)
 

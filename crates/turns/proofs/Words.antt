@@ -14,7 +14,8 @@ use Rattle.bank.specs.Bank.{Bank, insertedFromBack, resized, placeInUse}
 use Rattle.bank.proofs.Counts.{place-at, place-none}
 use Rattle.nibbles.specs.Nibbles.{pack, nibbles}
 use Rattle.nibbles.specs.Words.{bankOf, wordOf}
-use Rattle.nibbles.proofs.Nibbles.{pow-step, low-lt, high-lt, join-lt, wider, length-nibbles, getD-nibbles, pack-nibbles, nibbles-pack, nibbles-low}
+use Rattle.nibbles.proofs.Nibbles.{pow-step, low-lt, high-lt, join-lt, wider, length-nibbles, getD-nibbles, pack-nibbles, nibbles-pack}
+use Rattle.nibbles.proofs.Nibbles.{nibbles-low}
 use Rattle.nibbles.proofs.Words.{slot-here, bank-low}
 use Rattle.turns.proofs.Moves.{pack-inserted, small-set, length-put}
 
@@ -189,7 +190,8 @@ module _ (w word i : ℕ) (m : w ≤ 15) (o : i ≤ word % 16) (f : word % 16 < 
   pub sum-fits : kept + ((15 * later + last) * 2 ^ (4 * (i + 1))) % 2 ^ 64 + 1 < 2 ^ 64
   sum-fits =
       join-lt (w - i) (i + 1) 16 sum (omega (arith, last-lt, later-lt, widened))
-      (next-size-lt w word i (omega arith) (omega arith) ek (let z : kept % 2 ^ (4 * (i + 1)) ≡ kept % 2 ^ (4 * (i + 1)) = refl in z)) (omega arith)
+      (next-size-lt w word i (omega arith) (omega arith) ek (let z : kept % 2 ^ (4 * (i + 1)) ≡ kept % 2 ^ (4 * (i + 1)) = refl in z))
+      (omega arith)
 
   pub shift-fits : kept + ((15 * later + last) * 2 ^ (4 * (i + 1))) % 2 ^ 64 < 2 ^ 64
   shift-fits = omega (arith, sum-fits)

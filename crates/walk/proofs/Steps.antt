@@ -22,10 +22,12 @@ use Rattle.arena.specs.Parts.{part}
 use Rattle.arena.specs.Layout.{nodeStart, kindAt, wordAt, markAt}
 use Rattle.arena.specs.Memory.{Memory, memory}
 use Rattle.arena.proofs.Words.{part-at, part-length}
-use Rattle.forest.specs.Nodes.{allZero, entryAt, entriesAt, restAt, ofClass, isZero, ikeysAt, childrenAt, countAt, leafRight, internodeRight}
+use Rattle.forest.specs.Nodes.{allZero, entryAt, entriesAt, restAt, ofClass, isZero, ikeysAt, childrenAt, countAt, leafRight}
+use Rattle.forest.specs.Nodes.{internodeRight}
 use Rattle.forest.specs.Cells.{cellRight, filed}
 use Rattle.forest.specs.Trees.{Key, Ref, seenAs, nodeNo, cellNo, leftmost, rightmost}
-use Rattle.forest.specs.Walk.{Seen, Step, when, andThen, each, see, walkRef, walkEntry, spans, walkSpan, walkLeaf, walkInternode, walkNode, heightAt, walkOne, walkLayer}
+use Rattle.forest.specs.Walk.{Seen, Step, when, andThen, each, see, walkRef, walkEntry, spans, walkSpan, walkLeaf, walkInternode, walkNode}
+use Rattle.forest.specs.Walk.{heightAt, walkOne, walkLayer}
 use Rattle.forest.proofs.InUse as in-use
 use Rattle.forest.proofs.Heights.{height-most}
 use Rattle.forest.proofs.InUse.{seen-ikey}
@@ -167,7 +169,8 @@ module _ (nodes : List ℕ) (k : ℕ) where
   entries-length = length-map (entriesAt nodes k) seenAs ∙ in-use.entries-length nodes k (wordAt nodes k 1) refl
 
   entries-from : (i : ℕ) → i < wordAt nodes k 1 % 16
-      → drop i (map seenAs (entriesAt nodes k)) ≡ seenAs (entryAt nodes k (slotAt i (slotsOf (wordAt nodes k 1)))) ∷ drop (i + 1) (map seenAs (entriesAt nodes k))
+      → drop i (map seenAs (entriesAt nodes k)) ≡ seenAs (entryAt nodes k (slotAt i (slotsOf (wordAt nodes k 1)))) ∷ drop (i + 1)
+      (map seenAs (entriesAt nodes k))
   entries-from i h =
       rw (add-one i)
       (drop-cons (map seenAs (entriesAt nodes k)) i (seenAs no-entry) (rw entries-length h)
@@ -175,7 +178,8 @@ module _ (nodes : List ℕ) (k : ℕ) where
       (List·getD-map seenAs (entriesAt nodes k) i no-entry ∙ ap seenAs (in-use.entry-here nodes k (wordAt nodes k 1) refl i h refl)))
 
 module _ (ref : Key → Ref → Step) (nodes : List ℕ) (lo hi k i : ℕ) (seen : Seen) {total : Option Seen}
-    (inv : each (walkEntry ref lo hi) (drop i (map seenAs (entriesAt nodes k))) seen ≡ total) {size : ℕ} (z : size ≡ wordAt nodes k 1 % 16) where
+    (inv : each (walkEntry ref lo hi) (drop i (map seenAs (entriesAt nodes k))) seen ≡ total) {size : ℕ}
+    (z : size ≡ wordAt nodes k 1 % 16) where
   pub leaf-end : size ≤ i → told true seen ≡ total
   unfolding each told
   leaf-end h =
@@ -212,7 +216,8 @@ module _ (node : ℕ → ℕ → ℕ → Step) (nodes : List ℕ) (lo hi k : ℕ
     unfolding walkInternode told
     inter-not f = rw (← q, f)
 
-    pub inter-start : r ≡ true → each (walkSpan node) (spans lo hi (drop 0 (ikeysAt nodes k)) (drop 0 (childrenAt nodes k))) seen ≡ walkInternode node nodes lo hi k seen
+    pub inter-start : r ≡ true → each (walkSpan node) (spans lo hi (drop 0 (ikeysAt nodes k)) (drop 0 (childrenAt nodes k))) seen
+        ≡ walkInternode node nodes lo hi k seen
     unfolding walkInternode
     inter-start f = rw (← q, f)
 
@@ -235,13 +240,15 @@ module _ (nodes : List ℕ) (k : ℕ) (few : countAt nodes k ≤ 15) (fits : nod
   unfolding childrenAt
   children-length = part-length nodes (nodeStart k + 17) (countAt nodes k + 1) (omega arith)
 
-  children-from : (i : ℕ) → i ≤ countAt nodes k → drop i (childrenAt nodes k) ≡ getD nodes (nodeStart k + 17 + i) 0 ∷ drop (i + 1) (childrenAt nodes k)
+  children-from : (i : ℕ) → i ≤ countAt nodes k
+      → drop i (childrenAt nodes k) ≡ getD nodes (nodeStart k + 17 + i) 0 ∷ drop (i + 1) (childrenAt nodes k)
   unfolding childrenAt
   children-from i h =
       rw (add-one i, ← part-at nodes (nodeStart k + 17) (countAt nodes k + 1) i (omega arith))
       (drop-cons (childrenAt nodes k) i 0 (rw children-length (omega arith)))
 
-  ikeys-from : (i : ℕ) → i < countAt nodes k → drop i (ikeysAt nodes k) ≡ getD nodes (nodeStart k + 2 + i) 0 ∷ drop (i + 1) (ikeysAt nodes k)
+  ikeys-from : (i : ℕ) → i < countAt nodes k
+      → drop i (ikeysAt nodes k) ≡ getD nodes (nodeStart k + 2 + i) 0 ∷ drop (i + 1) (ikeysAt nodes k)
   unfolding ikeysAt
   ikeys-from i h =
       rw (add-one i, ← part-at nodes (nodeStart k + 2) (countAt nodes k) i h)
@@ -257,15 +264,18 @@ module _ (nodes : List ℕ) (k : ℕ) (few : countAt nodes k ≤ 15) (fits : nod
   unfolding spans
   spans-end lo hi i h = rw (children-end i h)
 
-  spans-from : (lo i : ℕ) (high right : Edge) → i ≤ countAt nodes k → right ≡ edgeAt nodes (nodeStart k + 2 + i) (ltb i (countAt nodes k)) high
+  spans-from : (lo i : ℕ) (high right : Edge) → i ≤ countAt nodes k
+      → right ≡ edgeAt nodes (nodeStart k + 2 + i) (ltb i (countAt nodes k)) high
       → spans lo (rightOf high) (drop i (ikeysAt nodes k)) (drop i (childrenAt nodes k))
-      ≡ (lo, rightOf right, getD nodes (nodeStart k + 17 + i) 0) ∷ spans (leftOf right) (rightOf high) (drop (i + 1) (ikeysAt nodes k)) (drop (i + 1) (childrenAt nodes k))
+      ≡ (lo, rightOf right, getD nodes (nodeStart k + 17 + i) 0) ∷ spans (leftOf right) (rightOf high) (drop (i + 1) (ikeysAt nodes k))
+      (drop (i + 1) (childrenAt nodes k))
   unfolding spans edgeAt
   spans-from lo i high right h e = by (decLt i (countAt nodes k))
     where
       by : Dec (i < countAt nodes k)
           → spans lo (rightOf high) (drop i (ikeysAt nodes k)) (drop i (childrenAt nodes k))
-          ≡ (lo, rightOf right, getD nodes (nodeStart k + 17 + i) 0) ∷ spans (leftOf right) (rightOf high) (drop (i + 1) (ikeysAt nodes k)) (drop (i + 1) (childrenAt nodes k))
+          ≡ (lo, rightOf right, getD nodes (nodeStart k + 17 + i) 0) ∷ spans (leftOf right) (rightOf high) (drop (i + 1) (ikeysAt nodes k))
+          (drop (i + 1) (childrenAt nodes k))
       by (yes l) =
           let f : right ≡ record { known = true; ikey = getD nodes (nodeStart k + 2 + i) 0 } = rw (lt-ltb _ _ l) at e in
           rw (children-from i h, ikeys-from i l, f)
@@ -280,9 +290,11 @@ module _ (node : ℕ → ℕ → ℕ → Step) (nodes : List ℕ) (k i lo : ℕ)
   unfolding each told
   inter-end h = rw (spans-end nodes k (count-15 nodes k q y) fits lo (rightOf high) i h) at inv
 
-  module _ (h : i ≤ countAt nodes k) {right : Edge} (e : right ≡ edgeAt nodes (nodeStart k + 2 + i) (ltb i (countAt nodes k)) high) {b : Bool}
+  module _ (h : i ≤ countAt nodes k) {right : Edge} (e : right ≡ edgeAt nodes (nodeStart k + 2 + i) (ltb i (countAt nodes k)) high)
+      {b : Bool}
       (v : b ≡ ltb lo (rightOf right)) where
-    span : each (walkSpan node) ((lo, rightOf right, getD nodes (nodeStart k + 17 + i) 0) ∷ spans (leftOf right) (rightOf high) (drop (i + 1) (ikeysAt nodes k)) (drop (i + 1) (childrenAt nodes k))) seen ≡ total
+    span : each (walkSpan node) ((lo, rightOf right, getD nodes (nodeStart k + 17 + i) 0) ∷ spans (leftOf right) (rightOf high)
+        (drop (i + 1) (ikeysAt nodes k)) (drop (i + 1) (childrenAt nodes k))) seen ≡ total
     span = rw (spans-from nodes k (count-15 nodes k q y) fits lo i high right h e) at inv
 
     span-is : (o : Option Seen) → node lo (rightOf right) (getD nodes (nodeStart k + 17 + i) 0) seen ≡ o
@@ -294,13 +306,15 @@ module _ (node : ℕ → ℕ → ℕ → Step) (nodes : List ℕ) (k i lo : ℕ)
     unfolding told
     inter-out f = each-not _ _ _ _ span (span-is _ refl ∙ rw f)
 
-    module _ (t : b ≡ true) {r : Bool} (seen' : Seen) (f : told r seen' ≡ node lo (rightOf right) (getD nodes (nodeStart k + 17 + i) 0) seen) where
+    module _ (t : b ≡ true) {r : Bool} (seen' : Seen)
+        (f : told r seen' ≡ node lo (rightOf right) (getD nodes (nodeStart k + 17 + i) 0) seen) where
       pub inter-fails : r ≡ false → told false seen' ≡ total
       unfolding told
       inter-fails n = each-not _ _ _ _ span (span-is (told r seen') (sym f) ∙ rw (t, n))
 
       pub inter-next : r ≡ true
-          → each (walkSpan node) (spans (leftOf right) (rightOf high) (drop (i + 1) (ikeysAt nodes k)) (drop (i + 1) (childrenAt nodes k))) seen' ≡ total
+          → each (walkSpan node) (spans (leftOf right) (rightOf high) (drop (i + 1) (ikeysAt nodes k)) (drop (i + 1) (childrenAt nodes k)))
+          seen' ≡ total
       unfolding told
       inter-next d = each-so _ _ _ _ span (span-is (told r seen') (sym f) ∙ rw (t, d))
 
@@ -311,14 +325,18 @@ module _ (ref : Key → Ref → Step) (nodes : List ℕ) where
   then-none none f e = refl
   then-none (some s) f e = sym (e s)
 
-  pub node-beyond : (h lo hi n : ℕ) (seen : Seen) → length nodes ≡ 2 + (length nodes / 47) * 47 → length nodes / 47 ≤ n → told false seen ≡ walkNode ref nodes h lo hi n seen
+  pub node-beyond : (h lo hi n : ℕ) (seen : Seen) → length nodes ≡ 2 + (length nodes / 47) * 47 → length nodes / 47 ≤ n
+      → told false seen ≡ walkNode ref nodes h lo hi n seen
   unfolding walkNode walkLeaf walkInternode leafRight internodeRight told
   node-beyond zero lo hi n seen w l =
-      let z : kindAt nodes n ≡ 0 = List·getD-eq-default nodes 0 (omega arith) in then-none (see (nodeNo n) seen) (walkLeaf ref nodes lo hi n) (λ s. rw z)
+      let z : kindAt nodes n ≡ 0 = List·getD-eq-default nodes 0 (omega arith) in
+      then-none (see (nodeNo n) seen) (walkLeaf ref nodes lo hi n) (λ s. rw z)
   node-beyond (suc h) lo hi n seen w l =
-      let z : kindAt nodes n ≡ 0 = List·getD-eq-default nodes 0 (omega arith) in then-none (see (nodeNo n) seen) (walkInternode (walkNode ref nodes h) nodes lo hi n) (λ s. rw z)
+      let z : kindAt nodes n ≡ 0 = List·getD-eq-default nodes 0 (omega arith) in
+      then-none (see (nodeNo n) seen) (walkInternode (walkNode ref nodes h) nodes lo hi n) (λ s. rw z)
 
-module _ (ref : Key → Ref → Step) (nodes : List ℕ) (h lo hi n : ℕ) (seen : Seen) {r : Bool} (s : Seen) (e : told r s ≡ see (2 * n) seen) where
+module _ (ref : Key → Ref → Step) (nodes : List ℕ) (h lo hi n : ℕ) (seen : Seen) {r : Bool} (s : Seen)
+    (e : told r s ≡ see (2 * n) seen) where
   pub node-again : r ≡ false → told false s ≡ walkNode ref nodes h lo hi n seen
   unfolding walkNode told
   node-again f = by h
@@ -337,7 +355,8 @@ unfolding walkNode
 node-unroll ref nodes zero lo hi n seen z = absurd (z refl)
 node-unroll ref nodes (suc h) lo hi n seen z = rw (sub-one (suc h))
 
-module _ (ref : Key → Ref → Step) (nodes : List ℕ) (h lo hi n : ℕ) (seen : Seen) {r : Bool} (s : Seen) (e : told r s ≡ see (2 * n) seen) where
+module _ (ref : Key → Ref → Step) (nodes : List ℕ) (h lo hi n : ℕ) (seen : Seen) {r : Bool} (s : Seen)
+    (e : told r s ≡ see (2 * n) seen) where
   pub node-inter : {o : Option Seen} → r ≡ true → (h ≡ 0 → ⊥) → o ≡ walkInternode (walkNode ref nodes (h - 1)) nodes lo hi n s
       → o ≡ walkNode ref nodes h lo hi n seen
   node-inter t z f = rw (node-unroll ref nodes h lo hi n seen z, told-so s e t) f
@@ -347,7 +366,8 @@ module _ (ref : Key → Ref → Step) (nodes : List ℕ) (h lo hi n : ℕ) (seen
 pub height-few : (nodes : List ℕ) (root : ℕ) {h : ℕ} → h ≡ heightAt nodes 255 root → h ≤ 255
 height-few nodes root e = rw e (height-most nodes 255 root)
 
-layer-is : (l : ℕ) (m : Memory) (above : List ℕ) (root : ℕ) (seen : Seen) → walkLayer l m above root seen ≡ walkOne (below l m) m above root seen
+layer-is : (l : ℕ) (m : Memory) (above : List ℕ) (root : ℕ) (seen : Seen)
+    → walkLayer l m above root seen ≡ walkOne (below l m) m above root seen
 unfolding walkLayer below
 layer-is zero m above root seen = refl
 layer-is (suc l) m above root seen = refl

@@ -36,7 +36,8 @@ unfolding every
 every-more test [] x = sym (and-yes (test x))
 every-more test (y ∷ xs) x = by (test y) (every-more test xs x)
   where
-    by : (b : Bool) → every test (xs ++ x ∷ []) ≡ (every test xs && test x) → (b && every test (xs ++ x ∷ [])) ≡ ((b && every test xs) && test x)
+    by : (b : Bool) → every test (xs ++ x ∷ []) ≡ (every test xs && test x)
+        → (b && every test (xs ++ x ∷ [])) ≡ ((b && every test xs) && test x)
     by true e = e
     by false e = refl
 
@@ -48,7 +49,8 @@ module _ (xs : List ℕ) (at : ℕ) where
   part-more : (i : ℕ) → at + i < length xs → part xs at (i + 1) ≡ part xs at i ++ getD xs (at + i) 0 ∷ []
   unfolding part
   part-more i l =
-      rw (add-one i, ← getD-drop at xs i 0) (take-suc (drop at xs) i 0 (let z : i < length (drop at xs) = rw (length-drop at xs) (omega arith) in z))
+      rw (add-one i, ← getD-drop at xs i 0) (take-suc (drop at xs) i 0
+      (let z : i < length (drop at xs) = rw (length-drop at xs) (omega arith) in z))
 
   module _ (found : ℕ) {n i : ℕ} (e : eqb found 0 ≡ allZero (part xs at i)) where
     pub zero-next : at + n ≤ length xs → i < n → eqb (bitOr found (getD xs (at + i) 0)) 0 ≡ allZero (part xs at (i + 1))

@@ -6,4 +6,5 @@ use Rattle.index_crossing.proofs.give_audited.Tie as tie
 
 pub give-audited-spec : {M : Type 1} → statement M
 give-audited-spec =
-    tie.close (tie.spec (λ c. search needs) (λ c. search needs) (λ c κs. search needs) (λ c. search audited-tree) (λ c. search audited-refused))
+    tie.close (tie.spec (λ c. search needs) (λ c. search needs) (λ c κs. search needs) (λ c. search audited-tree)
+    (λ c. search audited-refused))

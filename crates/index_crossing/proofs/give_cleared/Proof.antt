@@ -6,4 +6,5 @@ use Rattle.index_crossing.proofs.give_cleared.Tie as tie
 
 pub give-cleared-spec : {M : Type 1} → statement M
 give-cleared-spec =
-    tie.close (tie.spec (λ c. search needs) (λ c. search needs) (λ c κs. search needs) (λ c. search cleared-done) (λ c. search cleared-refused))
+    tie.close (tie.spec (λ c. search needs) (λ c. search needs) (λ c κs. search needs) (λ c. search cleared-done)
+    (λ c. search cleared-refused))

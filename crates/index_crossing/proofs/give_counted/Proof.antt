@@ -6,4 +6,5 @@ use Rattle.index_crossing.proofs.give_counted.Tie as tie
 
 pub give-counted-spec : {M : Type 1} → statement M
 give-counted-spec =
-    tie.close (tie.spec (λ c. search needs) (λ c. search needs) (λ c κs. search needs) (λ c. search counted-entries) (λ c. search counted-refused))
+    tie.close (tie.spec (λ c. search needs) (λ c. search needs) (λ c κs. search needs) (λ c. search counted-entries)
+    (λ c. search counted-refused))

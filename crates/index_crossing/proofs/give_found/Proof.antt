@@ -6,4 +6,5 @@ use Rattle.index_crossing.proofs.give_found.Tie as tie
 
 pub give-found-spec : {M : Type 1} → statement M
 give-found-spec =
-    tie.close (tie.spec (λ c. search needs) (λ c. search needs) (λ c κs. search needs) (λ c. search found-frame) (λ c. search found-refused))
+    tie.close (tie.spec (λ c. search needs) (λ c. search needs) (λ c κs. search needs) (λ c. search found-frame)
+    (λ c. search found-refused))

@@ -6,4 +6,5 @@ use Rattle.index_crossing.proofs.give_removed.Tie as tie
 
 pub give-removed-spec : {M : Type 1} → statement M
 give-removed-spec =
-    tie.close (tie.spec (λ c. search needs) (λ c. search needs) (λ c κs. search needs) (λ c. search removed-done) (λ c. search removed-refused))
+    tie.close (tie.spec (λ c. search needs) (λ c. search needs) (λ c κs. search needs) (λ c. search removed-done)
+    (λ c. search removed-refused))

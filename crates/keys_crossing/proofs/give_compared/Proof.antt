@@ -7,4 +7,5 @@ use Rattle.keys_crossing.proofs.give_compared.Tie as tie
 pub give-compared-spec : {M : Type 1} → statement M
 give-compared-spec =
     tie.close
-    (tie.spec (λ c. search needs) (λ c κs. search needs) (λ c. search needs) (λ c κs. search needs) (λ c. search compared-order) (λ c. search compared-refused))
+    (tie.spec (λ c. search needs) (λ c κs. search needs) (λ c. search needs) (λ c κs. search needs) (λ c. search compared-order)
+    (λ c. search compared-refused))

@@ -7,4 +7,5 @@ use Rattle.keys_crossing.proofs.give_whole.Tie as tie
 pub give-whole-spec : {M : Type 1} → statement M
 give-whole-spec =
     tie.close
-    (tie.spec (λ c. search needs) (λ c κs. search needs) (λ c. search needs) (λ c κs. search needs) (λ c. search whole-order) (λ c. search whole-refused))
+    (tie.spec (λ c. search needs) (λ c κs. search needs) (λ c. search needs) (λ c κs. search needs) (λ c. search whole-order)
+    (λ c. search whole-refused))

@@ -7,4 +7,5 @@ use Rattle.keys_crossing.proofs.order_number.Tie as tie
 pub order-number-spec : {M : Type 1} → statement M
 order-number-spec =
     tie.close
-    (tie.spec (λ c. search needs) (λ c. search needs) (λ c. search needs) (λ c. search less-0) (λ c. search equal-1) (λ c. search greater-2))
+    (tie.spec (λ c. search needs) (λ c. search needs) (λ c. search needs) (λ c. search less-0) (λ c. search equal-1)
+    (λ c. search greater-2))

@@ -1,5 +1,6 @@
 -- `keys_held_compares::compare_suffix` meets its contract: a walk of its MIR, by hand. The key is taken apart, and `key::compare_suffix`
--- is called on the slice, the key's numbers and the slice that is passed, at a lifetime of its own. A key and a slice are Copy: one copy of what each owns is kept for the exit.
+-- is called on the slice, the key's numbers and the slice that is passed, at a lifetime of its own. A key and a slice are Copy: one copy of
+-- what each owns is kept for the exit.
 -- Assumes nothing.
 use mathlib.Core.Path.{_≡_, refl}
 use Prim.Native.Nat.{ℕ}

@@ -11,8 +11,11 @@ returns-2 : tie.Need-returns-2
 returns-2 c = search said-unlent
 
 in-lent-requires : tie.Need-in-lent-requires
-in-lent-requires c κs =
-    (told-yes (c .before .before .before .is-valid .ensures) (c .before .before .if1 .left), told-yes (c .before .are-lent .ensures) (c .if2 .left))
+in-lent-requires c κs = (
+  told-yes (c .before .before .before .is-valid .ensures) (c .before .before .if1 .left),
+  told-yes (c .before .are-lent .ensures)
+      (c .if2 .left),
+)
 
 returns-3 : tie.Need-returns-3
 returns-3 c = search said-lent

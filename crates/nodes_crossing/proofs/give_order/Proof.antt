@@ -7,4 +7,5 @@ use Rattle.nodes_crossing.proofs.give_order.Tie as tie
 pub give-order-spec : {M : Type 1} → statement M
 give-order-spec =
     tie.close
-    (tie.spec (λ c. search needs) (λ c κs. search needs) (λ c. search needs) (λ c κs. search needs) (λ c. search order-told) (λ c. search order-refused))
+    (tie.spec (λ c. search needs) (λ c κs. search needs) (λ c. search needs) (λ c κs. search needs) (λ c. search order-told)
+    (λ c. search order-refused))

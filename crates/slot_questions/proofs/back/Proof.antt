@@ -6,4 +6,5 @@ use Rattle.slot_questions.proofs.back.Tie as tie
 
 pub back-spec : {M : Type 1} → statement M
 back-spec =
-    tie.close (tie.spec (λ c κs. search needs) (λ c. search needs) (λ c. search calls) (λ c. search needs) (λ c κs. search asks) (λ c. search calls))
+    tie.close (tie.spec (λ c κs. search needs) (λ c. search needs) (λ c. search calls) (λ c. search needs) (λ c κs. search asks)
+    (λ c. search calls))

@@ -21,7 +21,8 @@ loop-again-2 : tie.Need-loop-again-2 Inv-loop μ-loop
 loop-again-2 c =
     let s = c .before .before in (
       search counts,
-      cells-next _ _ _ _ (s .if1 .left) (c .before .cell-free .ensures) (s .before .before .before .loop .inv .1) (not-false _ (c .if2 .left)),
+      cells-next _ _ _ _ (s .if1 .left) (c .before .cell-free .ensures) (s .before .before .before .loop .inv .1)
+          (not-false _ (c .if2 .left)),
       search counts,
       search counts,
     )

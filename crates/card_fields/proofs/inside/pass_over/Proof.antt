@@ -1,4 +1,5 @@
--- `inside::pass_over` meets its contract: what the rest of the bytes makes of the present state is what all make of the first. Assumes nothing.
+-- `inside::pass_over` meets its contract: what the rest of the bytes makes of the present state is what all make of the first. Assumes
+-- nothing.
 use Prim.Native.Nat.{_-_}
 use mathlib.Core.Path.{_≡_, refl}
 use borrow.Author.Needs.{needs}
@@ -13,7 +14,8 @@ use Rattle.card_fields.proofs.inside.pass_over.Tie as tie
 
 abbrev Inv-loop : tie.InvT-loop
 Inv-loop field₀ key₀ bytes t₀ i₀ field key t i =
-    (length field ≡ 256) × (length key ≡ 256) × Fits t × (arrived step (field, key, t) (drop i bytes) ≡ arrived step (field₀, key₀, t₀) bytes)
+    (length field ≡ 256) × (length key ≡ 256) × Fits t
+    × (arrived step (field, key, t) (drop i bytes) ≡ arrived step (field₀, key₀, t₀) bytes)
 
 abbrev μ-loop : tie.MeasureT-loop
 μ-loop field₀ key₀ bytes t₀ i₀ field key t i = length bytes - i

@@ -17,19 +17,38 @@ abbrev Inv-loop : tie.InvT-loop
 Inv-loop nodes₀ cells₀ bytes₀ field₀ key₀ image n t₀ i₀ nodes cells bytes field key t i =
     (i ≤ n) × (length nodes ≡ length nodes₀) × (length cells ≡ length cells₀) × (length bytes ≡ length bytes₀)
     × (length field ≡ 256) × (length key ≡ 256) × Fits (t .fields)
-    × (both field key t (memory nodes cells bytes) ≡ arrived stepPutting (both field₀ key₀ t₀ (memory nodes₀ cells₀ bytes₀)) (payload i image))
+    × (both field key t (memory nodes cells bytes) ≡ arrived stepPutting (both field₀ key₀ t₀ (memory nodes₀ cells₀ bytes₀))
+    (payload i image))
 
 abbrev μ-loop : tie.MeasureT-loop
 μ-loop nodes₀ cells₀ bytes₀ field₀ key₀ image n t₀ i₀ nodes cells bytes field key t i = n - i
 
 loop-holds : tie.Need-loop-holds Inv-loop μ-loop
-loop-holds c = (search needs, search needs, search needs, search needs, search needs, search needs, search needs, search (blocks-none stepPutting))
+loop-holds c = (
+  search needs,
+  search needs,
+  search needs,
+  search needs,
+  search needs,
+  search needs,
+  search needs,
+  search (blocks-none stepPutting),
+)
 
 enter-bytes-requires : tie.Need-enter-bytes-requires Inv-loop μ-loop
 enter-bytes-requires c κs = (search (needs, right-kept), search needs, search needs, search needs)
 
 loop-again : tie.Need-loop-again Inv-loop μ-loop
-loop-again c = (search needs, search needs, search needs, search needs, search needs, search needs, search all-fit, search (blocks-more stepPutting))
+loop-again c = (
+  search needs,
+  search needs,
+  search needs,
+  search needs,
+  search needs,
+  search needs,
+  search all-fit,
+  search (blocks-more stepPutting),
+)
 
 returns : tie.Need-returns Inv-loop μ-loop
 returns c = search (blocks-last stepPutting)

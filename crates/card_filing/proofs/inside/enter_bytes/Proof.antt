@@ -1,4 +1,5 @@
--- `card_filing::inside::enter_bytes` meets its contract: what the rest of the bytes makes of the present state is what all make of the first.
+-- `card_filing::inside::enter_bytes` meets its contract: what the rest of the bytes makes of the present state is what all make of the
+-- first.
 -- Assumes nothing.
 use Prim.Native.Nat.{_-_}
 use mathlib.Core.Path.{_≡_, refl}
@@ -18,7 +19,8 @@ abbrev Inv-loop : tie.InvT-loop
 Inv-loop nodes₀ cells₀ bytes₀ field₀ key₀ part t₀ i₀ nodes cells bytes field key t i =
     (length nodes ≡ length nodes₀) × (length cells ≡ length cells₀) × (length bytes ≡ length bytes₀)
     × (length field ≡ 256) × (length key ≡ 256) × Fits (t .fields)
-    × (arrived stepPutting (both field key t (memory nodes cells bytes)) (drop i part) ≡ arrived stepPutting (both field₀ key₀ t₀ (memory nodes₀ cells₀ bytes₀)) part)
+    × (arrived stepPutting (both field key t (memory nodes cells bytes)) (drop i part) ≡ arrived stepPutting
+    (both field₀ key₀ t₀ (memory nodes₀ cells₀ bytes₀)) part)
 
 abbrev μ-loop : tie.MeasureT-loop
 μ-loop nodes₀ cells₀ bytes₀ field₀ key₀ part t₀ i₀ nodes cells bytes field key t i = length part - i

@@ -12,8 +12,10 @@ use Rattle.card_writer.proofs.inside.fill_stream.Tie as tie
 
 abbrev Inv-loop : tie.InvT-loop
 Inv-loop order cells bytes n block₀ s₀ j₀ block s j =
-    (j ≤ 504) × (length block ≡ 512) × Placed (lensOf order cells) n s × (restOf (lent order cells bytes) n s ≡ drop j (restOf (lent order cells bytes) n s₀))
-    × (further (lensOf order cells) n (504 - j) s ≡ further (lensOf order cells) n 504 s₀) × (block ≡ putPart block₀ 0 (front j (restOf (lent order cells bytes) n s₀)))
+    (j ≤ 504) × (length block ≡ 512) × Placed (lensOf order cells) n s
+    × (restOf (lent order cells bytes) n s ≡ drop j (restOf (lent order cells bytes) n s₀))
+    × (further (lensOf order cells) n (504 - j) s ≡ further (lensOf order cells) n 504 s₀)
+    × (block ≡ putPart block₀ 0 (front j (restOf (lent order cells bytes) n s₀)))
 
 abbrev μ-loop : tie.MeasureT-loop
 μ-loop order cells bytes n block₀ s₀ j₀ block s j = 504 - j

@@ -11,7 +11,8 @@ use Rattle.card_writer.proofs.inside.total.Tie as tie
 
 abbrev Inv-loop : tie.InvT-loop
 Inv-loop order cells bytes n sum₀ i₀ sum i =
-    (i ≤ n) × (sum ≤ 4 + 266 * i) × (sum + bytesFrom (lent order cells bytes) i (n - i) ≡ length (unfilled (entriesAt (lent order cells bytes) 0 n)))
+    (i ≤ n) × (sum ≤ 4 + 266 * i) × (sum + bytesFrom (lent order cells bytes) i (n - i) ≡ length
+    (unfilled (entriesAt (lent order cells bytes) 0 n)))
 
 abbrev μ-loop : tie.MeasureT-loop
 μ-loop order cells bytes n sum₀ i₀ sum i = n - i

@@ -12,7 +12,9 @@ use Rattle.each_line.proofs.inside.answer_part.Tie as tie
 
 abbrev Inv-loop : tie.InvT-loop
 Inv-loop nodes₀ cells₀ bytes₀ part line₀ kept out₀ from₀ held₀ answered₀ nodes cells bytes line out from held answered =
-    (from ≤ length part) × (length nodes ≡ length nodes₀) × (length cells ≡ length cells₀) × (length bytes ≡ length bytes₀) × (length line ≡ length line₀) × (length out ≡ length out₀) × Going (memory nodes₀ cells₀ bytes₀) (take kept line₀) part from answered (memory nodes cells bytes) line held
+    (from ≤ length part) × (length nodes ≡ length nodes₀) × (length cells ≡ length cells₀) × (length bytes ≡ length bytes₀)
+    × (length line ≡ length line₀) × (length out ≡ length out₀)
+    × Going (memory nodes₀ cells₀ bytes₀) (take kept line₀) part from answered (memory nodes cells bytes) line held
 
 abbrev μ-loop : tie.MeasureT-loop
 μ-loop nodes₀ cells₀ bytes₀ part line₀ kept out₀ from₀ held₀ answered₀ nodes cells bytes line out from held answered = length part - from

@@ -82,10 +82,28 @@ abbrev list-layer-calls : ℕ → list-layer-lts.Claims
 list-layer-calls t = (height-of-reads.Asked, height-of-reads.Learnt, list-node-below t, list-node.Post)
 
 abbrev list-leaf-calls : ℕ → list-leaf-lts.Claims
-list-leaf-calls t = (word-of-reads.Asked, word-of-reads.Learnt, slot-of-reads.Asked, slot-of-reads.Learnt, entry-of-reads.Asked, entry-of-reads.Learnt, list-entry-below t, list-entry.Post)
+list-leaf-calls t = (
+  word-of-reads.Asked,
+  word-of-reads.Learnt,
+  slot-of-reads.Asked,
+  slot-of-reads.Learnt,
+  entry-of-reads.Asked,
+  entry-of-reads.Learnt,
+  list-entry-below t,
+  list-entry.Post,
+)
 
 abbrev list-node-calls : ℕ → list-node-lts.Claims
-list-node-calls t = (list-leaf-below t, list-leaf.Post, children-of-reads.Asked, children-of-reads.Learnt, child-at-reads.Asked, child-at-reads.Learnt, list-node-below t, list-node.Post)
+list-node-calls t = (
+  list-leaf-below t,
+  list-leaf.Post,
+  children-of-reads.Asked,
+  children-of-reads.Learnt,
+  child-at-reads.Asked,
+  child-at-reads.Learnt,
+  list-node-below t,
+  list-node.Post,
+)
 
 list-entry-returns : (t : ℕ) → list-entry-lts.Need-returns (list-entry-calls t) (list-entry-at t) list-entry.Post
 list-entry-returns t c = search notes
@@ -132,34 +150,43 @@ list-leaf-Inv-loop nodes links n order₀ at word size to₀ i₀ order to i =
 abbrev list-leaf-μ-loop : list-leaf-lts.MeasureT-loop
 list-leaf-μ-loop nodes links n order₀ at word size to₀ i₀ order to i = size - i
 
-list-leaf-word-of-requires : (t : ℕ) → list-leaf-lts.Need-word-of-requires (list-leaf-calls t) (list-leaf-at t) list-leaf.Post list-leaf-Inv-loop list-leaf-μ-loop
+list-leaf-word-of-requires : (t : ℕ) → list-leaf-lts.Need-word-of-requires (list-leaf-calls t) (list-leaf-at t) list-leaf.Post
+    list-leaf-Inv-loop list-leaf-μ-loop
 list-leaf-word-of-requires t c κs = search notes
 
-list-leaf-loop-holds : (t : ℕ) → list-leaf-lts.Need-loop-holds (list-leaf-calls t) (list-leaf-at t) list-leaf.Post list-leaf-Inv-loop list-leaf-μ-loop
+list-leaf-loop-holds : (t : ℕ) → list-leaf-lts.Need-loop-holds (list-leaf-calls t) (list-leaf-at t) list-leaf.Post list-leaf-Inv-loop
+    list-leaf-μ-loop
 list-leaf-loop-holds t c = (search needs, search needs, search notes)
 
-list-leaf-slot-of-requires : (t : ℕ) → list-leaf-lts.Need-slot-of-requires (list-leaf-calls t) (list-leaf-at t) list-leaf.Post list-leaf-Inv-loop list-leaf-μ-loop
+list-leaf-slot-of-requires : (t : ℕ) → list-leaf-lts.Need-slot-of-requires (list-leaf-calls t) (list-leaf-at t) list-leaf.Post
+    list-leaf-Inv-loop list-leaf-μ-loop
 list-leaf-slot-of-requires t c κs = search notes
 
 list-leaf-add-i : (t : ℕ) → list-leaf-lts.Need-add-i (list-leaf-calls t) (list-leaf-at t) list-leaf.Post list-leaf-Inv-loop list-leaf-μ-loop
 list-leaf-add-i t c = search notes
 
-list-leaf-entry-of-requires : (t : ℕ) → list-leaf-lts.Need-entry-of-requires (list-leaf-calls t) (list-leaf-at t) list-leaf.Post list-leaf-Inv-loop list-leaf-μ-loop
+list-leaf-entry-of-requires : (t : ℕ) → list-leaf-lts.Need-entry-of-requires (list-leaf-calls t) (list-leaf-at t) list-leaf.Post
+    list-leaf-Inv-loop list-leaf-μ-loop
 list-leaf-entry-of-requires t c κs = search notes
 
-list-leaf-list-entry-requires : (t : ℕ) → list-leaf-lts.Need-list-entry-requires (list-leaf-calls t) (list-leaf-at t) list-leaf.Post list-leaf-Inv-loop list-leaf-μ-loop
+list-leaf-list-entry-requires : (t : ℕ) → list-leaf-lts.Need-list-entry-requires (list-leaf-calls t) (list-leaf-at t) list-leaf.Post
+    list-leaf-Inv-loop list-leaf-μ-loop
 list-leaf-list-entry-requires t c κs = search notes
 
-list-leaf-loop-less : (t : ℕ) → list-leaf-lts.Need-loop-less (list-leaf-calls t) (list-leaf-at t) list-leaf.Post list-leaf-Inv-loop list-leaf-μ-loop
+list-leaf-loop-less : (t : ℕ) → list-leaf-lts.Need-loop-less (list-leaf-calls t) (list-leaf-at t) list-leaf.Post list-leaf-Inv-loop
+    list-leaf-μ-loop
 list-leaf-loop-less t c = search notes
 
-list-leaf-loop-again : (t : ℕ) → list-leaf-lts.Need-loop-again (list-leaf-calls t) (list-leaf-at t) list-leaf.Post list-leaf-Inv-loop list-leaf-μ-loop
+list-leaf-loop-again : (t : ℕ) → list-leaf-lts.Need-loop-again (list-leaf-calls t) (list-leaf-at t) list-leaf.Post list-leaf-Inv-loop
+    list-leaf-μ-loop
 list-leaf-loop-again t c = (search needs, search needs, search notes)
 
-list-leaf-same-length : (t : ℕ) → list-leaf-lts.Need-same-length (list-leaf-calls t) (list-leaf-at t) list-leaf.Post list-leaf-Inv-loop list-leaf-μ-loop
+list-leaf-same-length : (t : ℕ) → list-leaf-lts.Need-same-length (list-leaf-calls t) (list-leaf-at t) list-leaf.Post list-leaf-Inv-loop
+    list-leaf-μ-loop
 list-leaf-same-length t c = search notes
 
-list-leaf-returns : (t : ℕ) → list-leaf-lts.Need-returns (list-leaf-calls t) (list-leaf-at t) list-leaf.Post list-leaf-Inv-loop list-leaf-μ-loop
+list-leaf-returns : (t : ℕ) → list-leaf-lts.Need-returns (list-leaf-calls t) (list-leaf-at t) list-leaf.Post list-leaf-Inv-loop
+    list-leaf-μ-loop
 list-leaf-returns t c = search notes
 
 abbrev list-node-Inv-loop : list-node-lts.InvT-loop
@@ -171,43 +198,55 @@ list-node-Inv-loop nodes links height n order₀ at many to₀ i₀ order to i =
 abbrev list-node-μ-loop : list-node-lts.MeasureT-loop
 list-node-μ-loop nodes links height n order₀ at many to₀ i₀ order to i = many - i
 
-list-node-list-leaf-requires : (t : ℕ) → list-node-lts.Need-list-leaf-requires (list-node-calls t) (list-node-at t) list-node.Post list-node-Inv-loop list-node-μ-loop
+list-node-list-leaf-requires : (t : ℕ) → list-node-lts.Need-list-leaf-requires (list-node-calls t) (list-node-at t) list-node.Post
+    list-node-Inv-loop list-node-μ-loop
 list-node-list-leaf-requires t c κs = search notes
 
-list-node-same-length : (t : ℕ) → list-node-lts.Need-same-length (list-node-calls t) (list-node-at t) list-node.Post list-node-Inv-loop list-node-μ-loop
+list-node-same-length : (t : ℕ) → list-node-lts.Need-same-length (list-node-calls t) (list-node-at t) list-node.Post list-node-Inv-loop
+    list-node-μ-loop
 list-node-same-length t c = search notes
 
-list-node-returns : (t : ℕ) → list-node-lts.Need-returns (list-node-calls t) (list-node-at t) list-node.Post list-node-Inv-loop list-node-μ-loop
+list-node-returns : (t : ℕ) → list-node-lts.Need-returns (list-node-calls t) (list-node-at t) list-node.Post list-node-Inv-loop
+    list-node-μ-loop
 list-node-returns t c = search notes
 
-list-node-children-of-requires : (t : ℕ) → list-node-lts.Need-children-of-requires (list-node-calls t) (list-node-at t) list-node.Post list-node-Inv-loop list-node-μ-loop
+list-node-children-of-requires : (t : ℕ)
+    → list-node-lts.Need-children-of-requires (list-node-calls t) (list-node-at t) list-node.Post list-node-Inv-loop list-node-μ-loop
 list-node-children-of-requires t c κs = search notes
 
-list-node-loop-holds : (t : ℕ) → list-node-lts.Need-loop-holds (list-node-calls t) (list-node-at t) list-node.Post list-node-Inv-loop list-node-μ-loop
+list-node-loop-holds : (t : ℕ) → list-node-lts.Need-loop-holds (list-node-calls t) (list-node-at t) list-node.Post list-node-Inv-loop
+    list-node-μ-loop
 list-node-loop-holds t c = (search needs, search needs, search notes)
 
-list-node-child-at-requires : (t : ℕ) → list-node-lts.Need-child-at-requires (list-node-calls t) (list-node-at t) list-node.Post list-node-Inv-loop list-node-μ-loop
+list-node-child-at-requires : (t : ℕ) → list-node-lts.Need-child-at-requires (list-node-calls t) (list-node-at t) list-node.Post
+    list-node-Inv-loop list-node-μ-loop
 list-node-child-at-requires t c κs = search notes
 
 list-node-add-i : (t : ℕ) → list-node-lts.Need-add-i (list-node-calls t) (list-node-at t) list-node.Post list-node-Inv-loop list-node-μ-loop
 list-node-add-i t c = search notes
 
-list-node-sub-list-node : (t : ℕ) → list-node-lts.Need-sub-list-node (list-node-calls t) (list-node-at t) list-node.Post list-node-Inv-loop list-node-μ-loop
+list-node-sub-list-node : (t : ℕ) → list-node-lts.Need-sub-list-node (list-node-calls t) (list-node-at t) list-node.Post list-node-Inv-loop
+    list-node-μ-loop
 list-node-sub-list-node t c = search notes
 
-list-node-list-node-requires : (t : ℕ) → list-node-lts.Need-list-node-requires (list-node-calls t) (list-node-at t) list-node.Post list-node-Inv-loop list-node-μ-loop
+list-node-list-node-requires : (t : ℕ) → list-node-lts.Need-list-node-requires (list-node-calls t) (list-node-at t) list-node.Post
+    list-node-Inv-loop list-node-μ-loop
 list-node-list-node-requires t c κs = search notes
 
-list-node-loop-less : (t : ℕ) → list-node-lts.Need-loop-less (list-node-calls t) (list-node-at t) list-node.Post list-node-Inv-loop list-node-μ-loop
+list-node-loop-less : (t : ℕ) → list-node-lts.Need-loop-less (list-node-calls t) (list-node-at t) list-node.Post list-node-Inv-loop
+    list-node-μ-loop
 list-node-loop-less t c = search notes
 
-list-node-loop-again : (t : ℕ) → list-node-lts.Need-loop-again (list-node-calls t) (list-node-at t) list-node.Post list-node-Inv-loop list-node-μ-loop
+list-node-loop-again : (t : ℕ) → list-node-lts.Need-loop-again (list-node-calls t) (list-node-at t) list-node.Post list-node-Inv-loop
+    list-node-μ-loop
 list-node-loop-again t c = (search needs, search needs, search notes)
 
-list-node-same-length-2 : (t : ℕ) → list-node-lts.Need-same-length-2 (list-node-calls t) (list-node-at t) list-node.Post list-node-Inv-loop list-node-μ-loop
+list-node-same-length-2 : (t : ℕ) → list-node-lts.Need-same-length-2 (list-node-calls t) (list-node-at t) list-node.Post list-node-Inv-loop
+    list-node-μ-loop
 list-node-same-length-2 t c = search notes
 
-list-node-returns-2 : (t : ℕ) → list-node-lts.Need-returns-2 (list-node-calls t) (list-node-at t) list-node.Post list-node-Inv-loop list-node-μ-loop
+list-node-returns-2 : (t : ℕ) → list-node-lts.Need-returns-2 (list-node-calls t) (list-node-at t) list-node.Post list-node-Inv-loop
+    list-node-μ-loop
 list-node-returns-2 t c = search notes
 
 pub +list-entry+list-layer+list-leaf+list-node-spec : {M : Type 1} → statement M

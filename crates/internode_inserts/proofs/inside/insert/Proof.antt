@@ -9,7 +9,8 @@ use Rattle.internode_inserts.proofs.inside.insert.Statement.{statement}
 use Rattle.internode_inserts.proofs.inside.insert.Tie as tie
 
 abbrev Inv-loop : tie.InvT-loop
-Inv-loop p ikey child node₀ n j₀ node j = (p ≤ j) × (j ≤ n) × (node .n ≡ n) × (node .ikeys ≡ opened j n (node₀ .ikeys)) × (node .children ≡ opened (j + 1) (n + 1) (node₀ .children))
+Inv-loop p ikey child node₀ n j₀ node j = (p ≤ j) × (j ≤ n) × (node .n ≡ n) × (node .ikeys ≡ opened j n (node₀ .ikeys))
+    × (node .children ≡ opened (j + 1) (n + 1) (node₀ .children))
 
 abbrev μ-loop : tie.MeasureT-loop
 μ-loop p ikey child node₀ n j₀ node j = j - p

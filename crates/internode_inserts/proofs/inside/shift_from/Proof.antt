@@ -10,7 +10,9 @@ use Rattle.internode_inserts.proofs.inside.shift_from.Statement.{statem
 use Rattle.internode_inserts.proofs.inside.shift_from.Tie as tie
 
 abbrev Inv-loop : tie.InvT-loop
-Inv-loop p at count node₀ src i₀ node i = (i ≤ count) × (node .n ≡ node₀ .n) × (node .ikeys ≡ paste (node₀ .ikeys) p (drop at (src .ikeys)) i) × (node .children ≡ paste (node₀ .children) (p + 1) (drop (at + 1) (src .children)) i)
+Inv-loop p at count node₀ src i₀ node i = (i ≤ count) × (node .n ≡ node₀ .n)
+    × (node .ikeys ≡ paste (node₀ .ikeys) p (drop at (src .ikeys)) i)
+    × (node .children ≡ paste (node₀ .children) (p + 1) (drop (at + 1) (src .children)) i)
 
 abbrev μ-loop : tie.MeasureT-loop
 μ-loop p at count node₀ src i₀ node i = count - i

@@ -1,5 +1,6 @@
 -- `inside::answer` meets its contract. Assumes nothing.
-use Rattle.lines.proofs.Requests.{put-fits, find-fits, del-fits, put-count, find-count, del-count, put-answered, find-answered, del-answered, list-answered, bad-answered}
+use Rattle.lines.proofs.Requests.{put-fits, find-fits, del-fits, put-count, find-count, del-count, put-answered, find-answered}
+use Rattle.lines.proofs.Requests.{del-answered, list-answered, bad-answered}
 use borrow.Author.Needs.{needs}
 use Rattle.lines.proofs.inside.answer.Statement.{statement}
 use Rattle.lines.proofs.inside.answer.Tie as tie

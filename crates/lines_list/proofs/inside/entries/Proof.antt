@@ -12,7 +12,8 @@ use Rattle.lines_list.proofs.inside.entries.Statement.{statement}
 use Rattle.lines_list.proofs.inside.entries.Tie as tie
 
 abbrev Inv-loop : tie.InvT-loop
-Inv-loop nodes cells bytes n out₀ at next₀ k₀ out next k = (k ≤ n) × (length out ≡ length out₀) × Typed out₀ at (entryTexts (memory nodes cells bytes) (take k (inKeyOrder (memory nodes cells bytes)))) next out
+Inv-loop nodes cells bytes n out₀ at next₀ k₀ out next k = (k ≤ n) × (length out ≡ length out₀)
+    × Typed out₀ at (entryTexts (memory nodes cells bytes) (take k (inKeyOrder (memory nodes cells bytes)))) next out
 
 abbrev μ-loop : tie.MeasureT-loop
 μ-loop nodes cells bytes n out₀ at next₀ k₀ out next k = n - k

@@ -11,8 +11,24 @@ entry-spec =
     tie.close
     (tie.spec
     (λ c κs. omega (arith, entry-length (now (c .before .before .before .args .stored)) (c .before .before .before .args .frame)))
-    (λ c κs. omega (arith, entry-length (now (c .before .before .before .before .before .before .before .args .stored)) (c .before .before .before .before .before .before .before .args .frame)))
-    (λ c κs. omega (arith, entry-length (now (c .before .before .before .before .before .before .before .before .before .before .before .args .stored)) (c .before .before .before .before .before .before .before .before .before .before .before .args .frame)))
-    (λ c κs. omega (arith, entry-length (now (c .before .before .before .before .before .before .before .before .before .before .before .before .before .before .before .args .stored)) (c .before .before .before .before .before .before .before .before .before .before .before .before .before .before .before .args .frame)))
+    (λ c κs. omega (
+      arith,
+      entry-length (now (c .before .before .before .before .before .before .before .args .stored))
+          (c .before .before .before .before .before .before .before .args .frame),
+    ))
+    (λ c κs. omega (
+      arith,
+      entry-length (now
+          (c .before .before .before .before .before .before .before .before .before .before .before .args .stored))
+          (c .before .before .before .before .before .before .before .before .before .before .before .args .frame),
+    ))
+    (λ c κs. omega (
+      arith,
+      entry-length (now
+          (c .before .before .before .before .before .before .before .before .before .before .before .before .before .before .before .args
+          .stored))
+          (c .before .before .before .before .before .before .before .before .before .before .before .before .before .before .before
+          .args .frame),
+    ))
     (λ c. search needs)
     (λ c. search entry-typed))

@@ -11,7 +11,8 @@ use Rattle.page.proofs.inside.hex.Statement.{statement}
 use Rattle.page.proofs.inside.hex.Tie as tie
 
 abbrev Inv-loop : tie.InvT-loop
-Inv-loop out₀ at key next₀ i₀ out next i = (i ≤ length key) × (at + 2 * length key ≤ length out₀) × (length out ≡ length out₀) × (next ≡ at + 2 * i) × Typed out₀ at (hexOf (take i key)) next out
+Inv-loop out₀ at key next₀ i₀ out next i = (i ≤ length key) × (at + 2 * length key ≤ length out₀) × (length out ≡ length out₀)
+    × (next ≡ at + 2 * i) × Typed out₀ at (hexOf (take i key)) next out
 
 abbrev μ-loop : tie.MeasureT-loop
 μ-loop out₀ at key next₀ i₀ out next i = length key - i

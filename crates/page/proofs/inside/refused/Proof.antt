@@ -12,6 +12,10 @@ refused-spec =
     (λ c. search needs)
     (λ c κs. omega (arith, refused-length (c .before .before .before .args .n)))
     (λ c κs. omega (arith, refused-length (c .before .before .before .before .before .before .before .args .n)))
-    (λ c κs. omega (arith, refused-length (c .before .before .before .before .before .before .before .before .before .before .before .args .n)))
+    (λ c κs. omega (
+      arith,
+      refused-length (c .before .before .before .before .before .before .before .before .before .before .before .args
+          .n),
+    ))
     (λ c. search needs)
     (λ c. search refused-typed))

@@ -21,8 +21,11 @@ loop-again : tie.Need-loop-again Inv-loop μ-loop
 loop-again c =
     let t = c .before .before .before .before in
     let l = t .before .before in
-    let s = l .before .before .before .before in
-    (search needs, under-next _ _ _ (s .pre .0) (t .before .loop .inv .1) (t .loop-test .taken) (c .before .before .eight .ensures) (c .if3 .left) (l .if2 .left))
+    let s = l .before .before .before .before in (
+      search needs,
+      under-next _ _ _ (s .pre .0) (t .before .loop .inv .1) (t .loop-test .taken) (c .before .before .eight .ensures)
+          (c .if3 .left) (l .if2 .left),
+    )
 
 pub is-under-spec : {M : Type 1} → statement M
 is-under-spec =

@@ -1,4 +1,5 @@
--- The walk meets its contracts: layer walk calls node walk, which calls layer walk at a link. What falls is the links that may yet follow, and
+-- The walk meets its contracts: layer walk calls node walk, which calls layer walk at a link. What falls is the links that may yet follow,
+-- and
 -- within a layer the height that is left. Assumes nothing.
 use borrow.Author.Needs.{needs}
 use Prim.Native.Nat.{ℕ, _+_, _-_, _*_, _≤_, _<_}
@@ -11,7 +12,8 @@ use Rattle.forest.specs.Trees.{seenAs}
 use Rattle.forest.specs.Walk.{each, walkEntry, walkSpan, spans, walkNode, walkLeaf, walkInternode}
 use Rattle.edge.specs.Edges.{leftOf, rightOf}
 use Rattle.walk.specs.Steps.{refsAt}
-use Rattle.walk.proofs.Steps.{entrywise, leafwise, interwise, nodewise, layerwise, leaf-out, leaf-fails, leaf-next, entries-on, inter-out, inter-fails, inter-next, spans-on, height-few}
+use Rattle.walk.proofs.Steps.{entrywise, leafwise, interwise, nodewise, layerwise, leaf-out, leaf-fails, leaf-next, entries-on}
+use Rattle.walk.proofs.Steps.{inter-out, inter-fails, inter-next, spans-on, height-few}
 use native.Mathlib.Omega.{arith}
 use borrow.Author.Tests.{not-true, not-false}
 use borrow.Fn.Kinds.{In}
@@ -112,19 +114,55 @@ walk-node-below t =
     and 5 walk-node-kinds.ps (falls 5 walk-node-kinds.ps _<_ μ-walk-node t) walk-node.Pre
 
 abbrev walk-entry-calls : ℕ → walk-entry-lts.Claims
-walk-entry-calls t = (walk-cell-reads.Asked, walk-cell-reads.Learnt, put1-reads.Asked, put1-reads.Learnt, walk-layer-below t, walk-layer.Post)
+walk-entry-calls t = (
+  walk-cell-reads.Asked,
+  walk-cell-reads.Learnt,
+  put1-reads.Asked,
+  put1-reads.Learnt,
+  walk-layer-below t,
+  walk-layer.Post,
+)
 
 abbrev walk-internode-calls : ℕ → walk-internode-lts.Claims
-walk-internode-calls t = (internode-right-reads.Asked, internode-right-reads.Learnt, right-edge-reads.Asked, right-edge-reads.Learnt, is-between-reads.Asked, is-between-reads.Learnt, walk-node-below t, walk-node.Post)
+walk-internode-calls t = (
+  internode-right-reads.Asked,
+  internode-right-reads.Learnt,
+  right-edge-reads.Asked,
+  right-edge-reads.Learnt,
+  is-between-reads.Asked,
+  is-between-reads.Learnt,
+  walk-node-below t,
+  walk-node.Post,
+)
 
 abbrev walk-layer-calls : ℕ → walk-layer-lts.Claims
 walk-layer-calls t = (height-reads.Asked, height-reads.Learnt, walk-node-below t, walk-node.Post)
 
 abbrev walk-leaf-calls : ℕ → walk-leaf-lts.Claims
-walk-leaf-calls t = (leaf-right-reads.Asked, leaf-right-reads.Learnt, size-of-reads.Asked, size-of-reads.Learnt, slot-at-reads.Asked, slot-at-reads.Learnt, entry-at-reads.Asked, entry-at-reads.Learnt, is-within-reads.Asked, is-within-reads.Learnt, walk-entry-below t, walk-entry.Post)
+walk-leaf-calls t = (
+  leaf-right-reads.Asked,
+  leaf-right-reads.Learnt,
+  size-of-reads.Asked,
+  size-of-reads.Learnt,
+  slot-at-reads.Asked,
+  slot-at-reads.Learnt,
+  entry-at-reads.Asked,
+  entry-at-reads.Learnt,
+  is-within-reads.Asked,
+  is-within-reads.Learnt,
+  walk-entry-below t,
+  walk-entry.Post,
+)
 
 abbrev walk-node-calls : ℕ → walk-node-lts.Claims
-walk-node-calls t = (see-number-reads.Asked, see-number-reads.Learnt, walk-leaf-below t, walk-leaf.Post, walk-internode-below t, walk-internode.Post)
+walk-node-calls t = (
+  see-number-reads.Asked,
+  see-number-reads.Learnt,
+  walk-leaf-below t,
+  walk-leaf.Post,
+  walk-internode-below t,
+  walk-internode.Post,
+)
 
 walk-entry-returns : (t : ℕ) → walk-entry-lts.Need-returns (walk-entry-calls t) (walk-entry-at t) walk-entry.Post
 walk-entry-returns t c = search entrywise
@@ -138,37 +176,50 @@ walk-entry-returns-3 t c = search entrywise
 abbrev walk-internode-Inv-loop : walk-internode-lts.InvT-loop
 walk-internode-Inv-loop nodes cells bytes seen₀ above₀ links h high k at n left₀ i₀ seen above left i =
     (i ≤ n + 1) × (n ≤ 15) × (length seen ≡ length seen₀)
-    × (each (walkSpan (walkNode (refsAt (memory nodes cells bytes) above links) nodes h)) (spans (leftOf left) (rightOf high) (drop i (ikeysAt nodes k)) (drop i (childrenAt nodes k))) seen
+    × (each (walkSpan (walkNode (refsAt (memory nodes cells bytes) above links) nodes h))
+    (spans (leftOf left) (rightOf high) (drop i (ikeysAt nodes k)) (drop i (childrenAt nodes k))) seen
     ≡ walkInternode (walkNode (refsAt (memory nodes cells bytes) above₀ links) nodes h) nodes (leftOf left₀) (rightOf high) k seen₀)
     × (length above ≡ length above₀) × (take links above ≡ take links above₀)
 
 abbrev walk-internode-μ-loop : walk-internode-lts.MeasureT-loop
 walk-internode-μ-loop nodes cells bytes seen₀ above₀ links h high k at n left₀ i₀ seen above left i = n + 1 - i
 
-walk-internode-returns : (t : ℕ) → walk-internode-lts.Need-returns (walk-internode-calls t) (walk-internode-at t) walk-internode.Post walk-internode-Inv-loop walk-internode-μ-loop
+walk-internode-returns : (t : ℕ) → walk-internode-lts.Need-returns (walk-internode-calls t) (walk-internode-at t) walk-internode.Post
+    walk-internode-Inv-loop walk-internode-μ-loop
 walk-internode-returns t c = search interwise
 
-walk-internode-loop-holds : (t : ℕ) → walk-internode-lts.Need-loop-holds (walk-internode-calls t) (walk-internode-at t) walk-internode.Post walk-internode-Inv-loop walk-internode-μ-loop
+walk-internode-loop-holds : (t : ℕ) → walk-internode-lts.Need-loop-holds (walk-internode-calls t) (walk-internode-at t) walk-internode.Post
+    walk-internode-Inv-loop walk-internode-μ-loop
 walk-internode-loop-holds t c = search interwise
 
-walk-internode-returns-2 : (t : ℕ) → walk-internode-lts.Need-returns-2 (walk-internode-calls t) (walk-internode-at t) walk-internode.Post walk-internode-Inv-loop walk-internode-μ-loop
+walk-internode-returns-2 : (t : ℕ) → walk-internode-lts.Need-returns-2 (walk-internode-calls t) (walk-internode-at t) walk-internode.Post
+    walk-internode-Inv-loop walk-internode-μ-loop
 walk-internode-returns-2 t c =
     let d = c .before in (
-      inter-out _ _ _ _ _ _ _ (d .before .before .before .loop .inv .3) (d .before .before .before .before .before .before .internode-right .ensures) (not-false _ (d .before .before .before .before .before .if1 .left)) (d .before .before .before .before .before .before .before .before .before .before .before .before .pre .1 .1)
+      inter-out _ _ _ _ _ _ _ (d .before .before .before .loop .inv .3)
+          (d .before .before .before .before .before .before .internode-right .ensures)
+          (not-false _ (d .before .before .before .before .before .if1 .left))
+          (d .before .before .before .before .before .before .before .before .before .before .before .before .pre .1 .1)
           (d .before .before .loop-test .taken) (d .before .right-edge .ensures) (d .is-between .ensures) (not-true _ (c .if2 .taken)),
       d .before .before .before .loop .inv .5,
     )
 
-walk-internode-returns-3 : (t : ℕ) → walk-internode-lts.Need-returns-3 (walk-internode-calls t) (walk-internode-at t) walk-internode.Post walk-internode-Inv-loop walk-internode-μ-loop
+walk-internode-returns-3 : (t : ℕ) → walk-internode-lts.Need-returns-3 (walk-internode-calls t) (walk-internode-at t) walk-internode.Post
+    walk-internode-Inv-loop walk-internode-μ-loop
 walk-internode-returns-3 t c =
     let w = c .before .before .before .before .before in
     let d = w .before .before .before .before .before in (
-      inter-fails _ _ _ _ _ _ _ (d .before .before .before .loop .inv .3) (d .before .before .before .before .before .before .internode-right .ensures) (not-false _ (d .before .before .before .before .before .if1 .left)) (d .before .before .before .before .before .before .before .before .before .before .before .before .pre .1 .1)
-          (d .before .before .loop-test .taken) (d .before .right-edge .ensures) (d .is-between .ensures) (not-false _ (w .before .before .before .before .if2 .left)) _ (w .walk-node .ensures .0) (not-true _ (c .if3 .taken)),
+      inter-fails _ _ _ _ _ _ _ (d .before .before .before .loop .inv .3)
+          (d .before .before .before .before .before .before .internode-right .ensures)
+          (not-false _ (d .before .before .before .before .before .if1 .left))
+          (d .before .before .before .before .before .before .before .before .before .before .before .before .pre .1 .1)
+          (d .before .before .loop-test .taken) (d .before .right-edge .ensures) (d .is-between .ensures)
+          (not-false _ (w .before .before .before .before .if2 .left)) _ (w .walk-node .ensures .0) (not-true _ (c .if3 .taken)),
       w .walk-node .ensures .1 ∙ d .before .before .before .loop .inv .5,
     )
 
-walk-internode-loop-again : (t : ℕ) → walk-internode-lts.Need-loop-again (walk-internode-calls t) (walk-internode-at t) walk-internode.Post walk-internode-Inv-loop walk-internode-μ-loop
+walk-internode-loop-again : (t : ℕ) → walk-internode-lts.Need-loop-again (walk-internode-calls t) (walk-internode-at t) walk-internode.Post
+    walk-internode-Inv-loop walk-internode-μ-loop
 walk-internode-loop-again t c =
     let w = c .before .before .before .before .before in
     let d = w .before .before .before .before .before in (
@@ -176,13 +227,18 @@ walk-internode-loop-again t c =
       search needs,
       search needs,
       spans-on _ _ _ _ (w .walk-node .ensures .1) _ _ _ _
-          (inter-next _ _ _ _ _ _ _ (d .before .before .before .loop .inv .3) (d .before .before .before .before .before .before .internode-right .ensures) (not-false _ (d .before .before .before .before .before .if1 .left)) (d .before .before .before .before .before .before .before .before .before .before .before .before .pre .1 .1)
-          (d .before .before .loop-test .taken) (d .before .right-edge .ensures) (d .is-between .ensures) (not-false _ (w .before .before .before .before .if2 .left)) _ (w .walk-node .ensures .0) (not-false _ (c .if3 .left))),
+          (inter-next _ _ _ _ _ _ _ (d .before .before .before .loop .inv .3)
+          (d .before .before .before .before .before .before .internode-right .ensures)
+          (not-false _ (d .before .before .before .before .before .if1 .left))
+          (d .before .before .before .before .before .before .before .before .before .before .before .before .pre .1 .1)
+          (d .before .before .loop-test .taken) (d .before .right-edge .ensures) (d .is-between .ensures)
+          (not-false _ (w .before .before .before .before .if2 .left)) _ (w .walk-node .ensures .0) (not-false _ (c .if3 .left))),
       search needs,
       w .walk-node .ensures .1 ∙ d .before .before .before .loop .inv .5,
     )
 
-walk-internode-returns-4 : (t : ℕ) → walk-internode-lts.Need-returns-4 (walk-internode-calls t) (walk-internode-at t) walk-internode.Post walk-internode-Inv-loop walk-internode-μ-loop
+walk-internode-returns-4 : (t : ℕ) → walk-internode-lts.Need-returns-4 (walk-internode-calls t) (walk-internode-at t) walk-internode.Post
+    walk-internode-Inv-loop walk-internode-μ-loop
 walk-internode-returns-4 t c = search interwise
 
 walk-layer-walk-node-requires : (t : ℕ) → walk-layer-lts.Need-walk-node-requires (walk-layer-calls t) (walk-layer-at t) walk-layer.Post
@@ -194,53 +250,69 @@ walk-layer-returns t c = search layerwise
 abbrev walk-leaf-Inv-loop : walk-leaf-lts.InvT-loop
 walk-leaf-Inv-loop nodes cells bytes seen₀ above₀ links low high k word size i₀ seen above i =
     (i ≤ size) × (length seen ≡ length seen₀)
-    × (each (walkEntry (refsAt (memory nodes cells bytes) above links) (leftOf low) (rightOf high)) (drop i (map seenAs (entriesAt nodes k))) seen
+    × (each (walkEntry (refsAt (memory nodes cells bytes) above links) (leftOf low) (rightOf high))
+    (drop i (map seenAs (entriesAt nodes k))) seen
     ≡ walkLeaf (refsAt (memory nodes cells bytes) above₀ links) nodes (leftOf low) (rightOf high) k seen₀)
     × (length above ≡ length above₀) × (take links above ≡ take links above₀)
 
 abbrev walk-leaf-μ-loop : walk-leaf-lts.MeasureT-loop
 walk-leaf-μ-loop nodes cells bytes seen₀ above₀ links low high k word size i₀ seen above i = size - i
 
-walk-leaf-returns : (t : ℕ) → walk-leaf-lts.Need-returns (walk-leaf-calls t) (walk-leaf-at t) walk-leaf.Post walk-leaf-Inv-loop walk-leaf-μ-loop
+walk-leaf-returns : (t : ℕ) → walk-leaf-lts.Need-returns (walk-leaf-calls t) (walk-leaf-at t) walk-leaf.Post walk-leaf-Inv-loop
+    walk-leaf-μ-loop
 walk-leaf-returns t c = search leafwise
 
-walk-leaf-loop-holds : (t : ℕ) → walk-leaf-lts.Need-loop-holds (walk-leaf-calls t) (walk-leaf-at t) walk-leaf.Post walk-leaf-Inv-loop walk-leaf-μ-loop
+walk-leaf-loop-holds : (t : ℕ) → walk-leaf-lts.Need-loop-holds (walk-leaf-calls t) (walk-leaf-at t) walk-leaf.Post walk-leaf-Inv-loop
+    walk-leaf-μ-loop
 walk-leaf-loop-holds t c = search leafwise
 
-walk-leaf-slot-at-requires : (t : ℕ) → walk-leaf-lts.Need-slot-at-requires (walk-leaf-calls t) (walk-leaf-at t) walk-leaf.Post walk-leaf-Inv-loop walk-leaf-μ-loop
+walk-leaf-slot-at-requires : (t : ℕ) → walk-leaf-lts.Need-slot-at-requires (walk-leaf-calls t) (walk-leaf-at t) walk-leaf.Post
+    walk-leaf-Inv-loop walk-leaf-μ-loop
 walk-leaf-slot-at-requires t c κs = search leafwise
 
-walk-leaf-returns-2 : (t : ℕ) → walk-leaf-lts.Need-returns-2 (walk-leaf-calls t) (walk-leaf-at t) walk-leaf.Post walk-leaf-Inv-loop walk-leaf-μ-loop
+walk-leaf-returns-2 : (t : ℕ) → walk-leaf-lts.Need-returns-2 (walk-leaf-calls t) (walk-leaf-at t) walk-leaf.Post walk-leaf-Inv-loop
+    walk-leaf-μ-loop
 walk-leaf-returns-2 t c =
     let d = c .before in (
-      leaf-out _ _ _ _ _ _ _ (d .before .before .before .before .loop .inv .2) (d .before .before .before .before .before .size-of .ensures) (d .before .before .before .loop-test .taken) (d .before .before .slot-at .ensures .0)
+      leaf-out _ _ _ _ _ _ _ (d .before .before .before .before .loop .inv .2)
+          (d .before .before .before .before .before .size-of .ensures) (d .before .before .before .loop-test .taken)
+          (d .before .before .slot-at .ensures .0)
           (d .before .entry-at .ensures) (d .is-within .ensures) (not-true _ (c .if2 .taken)),
       d .before .before .before .before .loop .inv .4,
     )
 
-walk-leaf-returns-3 : (t : ℕ) → walk-leaf-lts.Need-returns-3 (walk-leaf-calls t) (walk-leaf-at t) walk-leaf.Post walk-leaf-Inv-loop walk-leaf-μ-loop
+walk-leaf-returns-3 : (t : ℕ) → walk-leaf-lts.Need-returns-3 (walk-leaf-calls t) (walk-leaf-at t) walk-leaf.Post walk-leaf-Inv-loop
+    walk-leaf-μ-loop
 walk-leaf-returns-3 t c =
     let w = c .before .before .before .before .before in
     let d = w .before .before .before .before in (
-      leaf-fails _ _ _ _ _ _ _ (d .before .before .before .before .loop .inv .2) (d .before .before .before .before .before .size-of .ensures) (d .before .before .before .loop-test .taken) (d .before .before .slot-at .ensures .0)
-          (d .before .entry-at .ensures) (d .is-within .ensures) (not-false _ (w .before .before .before .if2 .left)) _ (w .walk-entry .ensures .0) (not-true _ (c .if3 .taken)),
+      leaf-fails _ _ _ _ _ _ _ (d .before .before .before .before .loop .inv .2)
+          (d .before .before .before .before .before .size-of .ensures) (d .before .before .before .loop-test .taken)
+          (d .before .before .slot-at .ensures .0)
+          (d .before .entry-at .ensures) (d .is-within .ensures) (not-false _ (w .before .before .before .if2 .left)) _
+          (w .walk-entry .ensures .0) (not-true _ (c .if3 .taken)),
       w .walk-entry .ensures .1 ∙ d .before .before .before .before .loop .inv .4,
     )
 
-walk-leaf-loop-again : (t : ℕ) → walk-leaf-lts.Need-loop-again (walk-leaf-calls t) (walk-leaf-at t) walk-leaf.Post walk-leaf-Inv-loop walk-leaf-μ-loop
+walk-leaf-loop-again : (t : ℕ) → walk-leaf-lts.Need-loop-again (walk-leaf-calls t) (walk-leaf-at t) walk-leaf.Post walk-leaf-Inv-loop
+    walk-leaf-μ-loop
 walk-leaf-loop-again t c =
     let w = c .before .before .before .before .before in
     let d = w .before .before .before .before in (
       search needs,
       search needs,
       entries-on _ _ _ _ (w .walk-entry .ensures .1) _ _ _ _
-          (leaf-next _ _ _ _ _ _ _ (d .before .before .before .before .loop .inv .2) (d .before .before .before .before .before .size-of .ensures) (d .before .before .before .loop-test .taken) (d .before .before .slot-at .ensures .0)
-          (d .before .entry-at .ensures) (d .is-within .ensures) (not-false _ (w .before .before .before .if2 .left)) _ (w .walk-entry .ensures .0) (not-false _ (c .if3 .left))),
+          (leaf-next _ _ _ _ _ _ _ (d .before .before .before .before .loop .inv .2)
+          (d .before .before .before .before .before .size-of .ensures) (d .before .before .before .loop-test .taken)
+          (d .before .before .slot-at .ensures .0)
+          (d .before .entry-at .ensures) (d .is-within .ensures) (not-false _ (w .before .before .before .if2 .left)) _
+          (w .walk-entry .ensures .0) (not-false _ (c .if3 .left))),
       search needs,
       w .walk-entry .ensures .1 ∙ d .before .before .before .before .loop .inv .4,
     )
 
-walk-leaf-returns-4 : (t : ℕ) → walk-leaf-lts.Need-returns-4 (walk-leaf-calls t) (walk-leaf-at t) walk-leaf.Post walk-leaf-Inv-loop walk-leaf-μ-loop
+walk-leaf-returns-4 : (t : ℕ) → walk-leaf-lts.Need-returns-4 (walk-leaf-calls t) (walk-leaf-at t) walk-leaf.Post walk-leaf-Inv-loop
+    walk-leaf-μ-loop
 walk-leaf-returns-4 t c = search leafwise
 
 walk-node-returns : (t : ℕ) → walk-node-lts.Need-returns (walk-node-calls t) (walk-node-at t) walk-node.Post
