@@ -1,5 +1,7 @@
 // The lent memory of the index as a whole, as docs/LAYOUT.md has it: its lengths, and `clear`. Nodes, cells and what is free are
 // passed on from the crate below.
+#![tactic(auto)]
+
 pub mod inside;
 
 ghost use Rattle.std.specs.Prelude.{◌≡◌, length};
@@ -13,14 +15,14 @@ use refusal::Refusal;
 const EMPTY: u64 = 0x0123_4567_89AB_CDE0;
 
 // How many nodes and cells the lent slices have room for, or 10.
-#[derive(Drop)]
+#[derive(Clone, Copy)]
 pub enum Measured {
     Fit { nodes: usize, cells: usize },
     Refused(Refusal),
 }
 
 // What a clear answers: done, or 10.
-#[derive(Drop)]
+#[derive(Clone, Copy)]
 pub enum Cleared {
     Done,
     Refused(Refusal),

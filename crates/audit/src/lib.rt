@@ -1,4 +1,6 @@
 // The audit: whether lent memory is a tree by the rules. It ends on any memory whatever, and changes no byte.
+#![tactic(auto)]
+
 ghost use Rattle.std.specs.Prelude.{◌≡◌};
 ghost use Rattle.arena.specs.Memory.{memory};
 ghost use Rattle.forest.specs.Walk.{is_tree};
@@ -8,7 +10,7 @@ use arena::Measured;
 use refusal::Refusal;
 
 // What an audit answers: memory is a tree, or 10.
-#[derive(Drop)]
+#[derive(Clone, Copy)]
 pub enum Audited {
     Tree,
     Refused(Refusal),

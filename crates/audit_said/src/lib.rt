@@ -1,1 +1,2 @@
 // What the audit of lent memory answers, as a definition. No code: read specs/.
+#![tactic(auto)]

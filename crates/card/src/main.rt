@@ -1,4 +1,5 @@
 // The label index saved to a file as an image of checked blocks, and such a file listed.
+#![tactic(auto)]
 
 // Says on standard error which arguments there are.
 fn say_usage() {

@@ -1,4 +1,6 @@
 // The two commands of the program `card`: the lines of an input answered and the index saved to a file, and a saved file listed.
+#![tactic(auto)]
+
 ghost use Rattle.std.specs.Prelude.{◌≡◌, length};
 
 use lines_session::Ended;

@@ -1,4 +1,6 @@
 // An answer of saving or of reading an image taken apart for C: its number to return, what it tells into the lent numbers.
+#![tactic(auto)]
+
 ghost use Rattle.std.specs.Prelude.{[], ◌∷◌};
 ghost use Rattle.card_save.specs.Answers.{said_saved};
 ghost use Rattle.card_load.specs.Load.{said_loaded};

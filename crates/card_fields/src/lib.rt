@@ -1,8 +1,10 @@
 // The machine that takes the stream of an image byte by byte.
+#![tactic(auto)]
+
 pub mod inside;
 
 // The field that is being read.
-#[derive(Drop)]
+#[derive(Clone, Copy)]
 pub enum Stage {
     Counting,
     Measuring,
@@ -13,7 +15,7 @@ pub enum Stage {
 }
 
 // Where the machine stands.
-#[derive(Drop)]
+#[derive(Clone, Copy)]
 pub struct Fields {
     pub stage: Stage,
     // where the field starts, or the wrong part

@@ -1,11 +1,13 @@
 // Files by name: one read to its end, and one replaced by another as a whole. Where that fails the reason is said on standard error.
+#![tactic(auto)]
+
 ghost use Rattle.std.specs.Prelude.{◌++◌, ◌≤◌, length};
 ghost use Rattle.io.specs.Counts.{IsPrefixLen};
 ghost use Rattle.page.specs.Page.{Typed};
 ghost use Rattle.card_files.specs.Names.{to_be_filled};
 
 // Whether a file was read to its end, and how many bytes of it stand at the front of the lent ones.
-#[derive(Drop)]
+#[derive(Clone, Copy)]
 pub struct Contents {
     pub whole: bool,
     pub bytes: usize,

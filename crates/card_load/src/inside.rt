@@ -16,7 +16,7 @@ use index_put::Added;
 use refusal::Refusal;
 
 // What is known before the index is touched: the image has so many blocks, and can be loaded; or the answer.
-#[derive(Drop)]
+#[derive(Clone, Copy)]
 pub enum Exam {
     Good(usize),
     Bad(Loaded),

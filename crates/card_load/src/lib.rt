@@ -1,4 +1,6 @@
 // The index read from an image: every check and the whole stream are judged before the index is touched.
+#![tactic(auto)]
+
 pub mod inside;
 
 ghost use Rattle.std.specs.Prelude.{◌≡◌};
@@ -10,7 +12,7 @@ use inside::Exam;
 use refusal::Refusal;
 
 // What reading an image answers.
-#[derive(Drop)]
+#[derive(Clone, Copy)]
 pub enum Loaded {
     // so many entries
     Entries(usize),

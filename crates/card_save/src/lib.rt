@@ -1,4 +1,6 @@
 // The index saved as an image: one walk lists its cells in key order, and the writer takes them from there.
+#![tactic(auto)]
+
 pub mod inside;
 
 ghost use Rattle.std.specs.Prelude.{◌≡◌};
@@ -10,7 +12,7 @@ use card_writer::Written;
 use refusal::Refusal;
 
 // What saving answers.
-#[derive(Drop)]
+#[derive(Clone, Copy)]
 pub enum Saved {
     // so many blocks
     Blocks(usize),

@@ -1,5 +1,7 @@
 // The label index on standard input and output: a line in, its answer out. It has 64 nodes and 128 cells. It ends with its input, or at
 // the first answer that cannot be written.
+#![tactic(auto)]
+
 use lines_session::Ended;
 
 // Answers every line of the input; says so on standard error where an answer could not be written.

@@ -1,4 +1,6 @@
 // An answer taken apart for C: its number to return, its values into the lent numbers.
+#![tactic(auto)]
+
 ghost use Rattle.std.specs.Prelude.{[], ◌∷◌};
 ghost use Rattle.permuter.specs.Answers.{said_changed, said_inserted, said_told, said_made};
 ghost use Rattle.crossing.specs.Crossing.{Crossed};

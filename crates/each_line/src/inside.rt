@@ -8,7 +8,7 @@ ghost use Rattle.lines.specs.Answered.{left};
 ghost use Rattle.each_line.specs.Parts.{left_by, PartDone};
 
 // How many bytes are kept of a line that has not ended, how many lines were answered, and whether the last write failed.
-#[derive(Drop)]
+#[derive(Clone, Copy)]
 pub struct Done {
     pub kept: usize,
     pub answered: usize,

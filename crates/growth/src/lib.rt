@@ -1,1 +1,2 @@
 // What a put writes over words, seen as the nodes of the trees.
+#![tactic(auto)]

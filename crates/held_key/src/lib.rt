@@ -1,6 +1,8 @@
 // A key that holds the caller's bytes, and thin functions over it: each passes the slice and the numbers to the plain call of crate `key`.
 // The plain call judges them, so nothing is asked of a key here, and the refusals are those of the plain call. The key itself, what tells
 // of its bytes, and the comparisons are passed on from the crates below.
+#![tactic(auto)]
+
 ghost use Rattle.std.specs.Prelude.{◌≡◌};
 ghost use Rattle.key_layer.specs.Keys.{Judge, Ikey, ShiftCount, CurrentLen, IsEmpty, IsShifted, HasSuffix, SuffixLen};
 ghost use Rattle.key_layer.specs.Keys.{UnshiftAll, new_said, shift_said, shift_by_said, unshift_said};

@@ -1,4 +1,6 @@
 // Numbers in lower-case hex, read from a place of a text. A byte that is no digit counts as 0, and so does what is behind the end.
+#![tactic(auto)]
+
 ghost use Rattle.std.specs.Prelude.{◌≡◌, ◌+◌, ◌^◌, ◌≤◌, ◌<◌, get_or};
 ghost use Rattle.hex_digits.specs.Digits.{digit_of, hex_at};
 

@@ -1,6 +1,8 @@
 // The label index in lent memory: clear, put, find, remove, the k-th entry in key order, and the count. Every call but clear and count
 // judges the whole of lent memory first; a refused call leaves every word and byte as it was. All but put are passed on, each from the
 // crate that proves it.
+#![tactic(auto)]
+
 ghost use Rattle.std.specs.Prelude.{◌≡◌};
 ghost use Rattle.arena.specs.Memory.{memory, did};
 ghost use Rattle.model.specs.Calls.{put_done};

@@ -1,4 +1,6 @@
 // How many entries the index in lent memory has, as the number is stored. Nothing is walked, and no byte changes.
+#![tactic(auto)]
+
 ghost use Rattle.std.specs.Prelude.{◌≡◌};
 ghost use Rattle.arena.specs.Memory.{memory};
 ghost use Rattle.model.specs.Calls.{count_said};
@@ -8,7 +10,7 @@ use arena::Measured;
 use refusal::Refusal;
 
 // The number of entries, or 10.
-#[derive(Drop)]
+#[derive(Clone, Copy)]
 pub enum Counted {
     Entries(u64),
     Refused(Refusal),

@@ -1,4 +1,6 @@
 // An answer of the index taken apart for C: its number to return, its values into the lent numbers.
+#![tactic(auto)]
+
 ghost use Rattle.std.specs.Prelude.{[], ◌∷◌};
 ghost use Rattle.arena.specs.Memory.{said_cleared, said_measured};
 ghost use Rattle.audit.specs.Audit.{said_audited};

@@ -1,2 +1,4 @@
 // An entry more below a node of lent memory.
+#![tactic(auto)]
+
 pub mod inside;

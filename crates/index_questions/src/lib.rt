@@ -1,5 +1,7 @@
 // The questions to the index in lent memory: find, and the k-th entry in key order. Each judges the whole of lent memory first and changes
 // no byte.
+#![tactic(auto)]
+
 mod entries;
 
 ghost use Rattle.std.specs.Prelude.{◌≡◌};
@@ -15,14 +17,14 @@ use refusal::Refusal;
 const LONGEST: usize = CELL_BYTES;
 
 // The frame number of a key.
-#[derive(Drop)]
+#[derive(Clone, Copy)]
 pub enum Found {
     Frame(u64),
     Refused(Refusal),
 }
 
 // The k-th entry: its cell, the length of its key, its frame number. The key's bytes are the caller's own, in that cell.
-#[derive(Drop)]
+#[derive(Clone, Copy)]
 pub enum Listed {
     Entry { cell: u64, length: u64, frame: u64 },
     Refused(Refusal),

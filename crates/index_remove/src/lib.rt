@@ -1,5 +1,7 @@
 // Remove, a change of the label index in lent memory: it judges the whole of lent memory first, and where it is refused every word and
 // byte is as it was.
+#![tactic(auto)]
+
 ghost use Rattle.std.specs.Prelude.{◌≡◌, ◌-◌, ◌≤◌, ◌<◌, length, get_or, set};
 ghost use Rattle.memory_layout.specs.Numbers.{most_lent, most_node_words};
 ghost use Rattle.arena.specs.Memory.{memory, did};
@@ -18,7 +20,7 @@ const LONGEST: usize = CELL_BYTES;
 const MOST_LINKS: usize = 31;
 
 // What a removal answers.
-#[derive(Drop)]
+#[derive(Clone, Copy)]
 pub enum Removed {
     Done,
     Refused(Refusal),

@@ -1,6 +1,8 @@
 // An internode by value: n ikeys in strictly rising order and one child more. A node goes in by value; where it is changed
 // it comes back in the answer. Every call judges its node, and refuses by number. The node, its places and what is inserted are
 // passed on from the crates below.
+#![tactic(auto)]
+
 ghost use Rattle.std.specs.Prelude.{◌≡◌};
 ghost use Rattle.internode.specs.Answers.{said_place, said_child, said_compared, said_inserted};
 ghost use Rattle.internode.specs.Calls.{find_said, compare_said, child_said, insert_said};
@@ -13,35 +15,35 @@ use refusal::Refusal;
 pub mod inside;
 
 // A place among the ikeys.
-#[derive(Drop)]
+#[derive(Clone, Copy)]
 pub enum Place {
     At(usize),
     Refused(Refusal),
 }
 
 // The number of a child.
-#[derive(Drop)]
+#[derive(Clone, Copy)]
 pub enum Child {
     Is(u64),
     Refused(Refusal),
 }
 
 // How two ikeys stand to each other.
-#[derive(Drop)]
+#[derive(Clone, Copy)]
 pub enum Compared {
     Is(Ordering),
     Refused(Refusal),
 }
 
 // Whether an insertion is accepted.
-#[derive(Drop)]
+#[derive(Clone, Copy)]
 pub enum Verdict {
     Accepted,
     Refused(Refusal),
 }
 
 // The node after an insertion, or the node as it was given.
-#[derive(Drop)]
+#[derive(Clone, Copy)]
 pub struct Inserted {
     pub said: Verdict,
     pub node: Internode,

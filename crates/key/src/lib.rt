@@ -1,6 +1,8 @@
 // Keys, plain: the caller's bytes and three numbers by value (ikey, shift count, suffix start), which every call judges first.
 // A key that does not fit its own bytes is refused with 7, a shift that it does not allow with 8, and the numbers come back.
 // The questions, the moves and what they share are passed on from the crates below; the parts of the caller's bytes are made here.
+#![tactic(auto)]
+
 ghost use Rattle.key.specs.Parts.{IsSuffix, IsData};
 
 pub use key_layer::{Compared, Count, Judged, Layer, Made, Moved, Told, Word};
@@ -15,7 +17,7 @@ pub use keys_told::{has_suffix, is_empty, is_shifted};
 pub mod inside;
 
 // A part of the caller's own bytes, beside the number of a refusal: 0 where nothing was refused. Refused, the part is empty.
-#[derive(Drop)]
+#[derive(Clone, Copy)]
 pub struct Part<'a> {
     pub refusal: u64,
     pub bytes: &'a [u8],

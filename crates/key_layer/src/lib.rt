@@ -1,12 +1,14 @@
 // A key's numbers at a layer, and the answers of the calls on keys: what the crates above share. The definitions of all of them, and the
 // laws by which they are proved, stand here too.
+#![tactic(auto)]
+
 use ikey::Ordering;
 use refusal::Refusal;
 
 pub mod inside;
 
 // A key's numbers at a layer.
-#[derive(Drop)]
+#[derive(Clone, Copy)]
 pub struct Layer {
     pub ikey: u64,
     pub shift_count: usize,
@@ -14,49 +16,49 @@ pub struct Layer {
 }
 
 // A new key, or why there is none.
-#[derive(Drop)]
+#[derive(Clone, Copy)]
 pub enum Made {
     At(Layer),
     Refused(Refusal),
 }
 
 // A key at another layer, or why it is where it was.
-#[derive(Drop)]
+#[derive(Clone, Copy)]
 pub enum Moved {
     At(Layer),
     Refused(Refusal, Layer),
 }
 
 // An ikey.
-#[derive(Drop)]
+#[derive(Clone, Copy)]
 pub enum Word {
     Is(u64),
     Refused(Refusal, Layer),
 }
 
 // A length, a count or an offset.
-#[derive(Drop)]
+#[derive(Clone, Copy)]
 pub enum Count {
     Is(usize),
     Refused(Refusal, Layer),
 }
 
 // Whether something is so.
-#[derive(Drop)]
+#[derive(Clone, Copy)]
 pub enum Told {
     Is(bool),
     Refused(Refusal, Layer),
 }
 
 // How a key stands to another.
-#[derive(Drop)]
+#[derive(Clone, Copy)]
 pub enum Compared {
     Is(Ordering),
     Refused(Refusal, Layer),
 }
 
 // Whether a key fits its bytes.
-#[derive(Drop)]
+#[derive(Clone, Copy)]
 pub enum Judged {
     Fits,
     Refused(Refusal, Layer),

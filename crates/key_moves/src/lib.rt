@@ -1,5 +1,7 @@
 // Keys moved a layer on or back: the caller's bytes and three numbers by value (ikey, shift count, suffix start).
 // A key that does not fit its own bytes is refused with 7, a shift that it does not allow with 8, and the numbers come back.
+#![tactic(auto)]
+
 ghost use Rattle.std.specs.Prelude.{◌≡◌};
 ghost use Rattle.key_layer.specs.Keys.{answer_to, UnshiftAll, shift_said, unshift_said};
 ghost use Rattle.key_layer.specs.Said.{said_moved};

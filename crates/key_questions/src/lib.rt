@@ -1,5 +1,7 @@
 // The numbers of a key, asked for one by one: the caller's bytes and three numbers by value (ikey, shift count, suffix start), which every
 // call judges first. A key that does not fit its own bytes is refused with 7, and the numbers come back.
+#![tactic(auto)]
+
 ghost use Rattle.std.specs.Prelude.{◌≡◌};
 ghost use Rattle.key_layer.specs.Keys.{answer_to, Ikey, ShiftCount, SuffixStart};
 ghost use Rattle.key_layer.specs.Said.{said_word, said_count};

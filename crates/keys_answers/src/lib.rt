@@ -1,4 +1,6 @@
 // The answers of calls on keys. What a key that fits is told is handed in; one that does not is refused with 7, and its numbers come back.
+#![tactic(auto)]
+
 ghost use Rattle.std.specs.Prelude.{◌≡◌, [], ◌∷◌};
 ghost use Rattle.ikey.specs.Said.{place, order_of};
 ghost use Rattle.key_layer.specs.Keys.{asked};

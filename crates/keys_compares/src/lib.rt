@@ -1,5 +1,7 @@
 // A key against another at its layer, and its suffix against another: the caller's bytes and three numbers by value (ikey, shift count,
 // suffix start). A key that does not fit its own bytes is refused with 7, and the numbers come back.
+#![tactic(auto)]
+
 ghost use Rattle.std.specs.Prelude.{◌≡◌};
 ghost use Rattle.key_layer.specs.Keys.{answer_to, Compare, CompareSuffix};
 ghost use Rattle.key_layer.specs.Said.{said_compared};

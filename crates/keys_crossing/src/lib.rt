@@ -1,4 +1,6 @@
 // An answer of the keys taken apart for C: its number to return, its values into the lent numbers.
+#![tactic(auto)]
+
 ghost use Rattle.std.specs.Prelude.{[], ◌∷◌, ◌≡◌};
 ghost use Rattle.ikey.specs.Said.{place, order_of, said_whole};
 ghost use Rattle.key.specs.Said.{said_made, said_moved, said_compared};

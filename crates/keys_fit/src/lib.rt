@@ -1,4 +1,6 @@
 // Whether a key's numbers are those of its bytes: what every call on a key decides first.
+#![tactic(auto)]
+
 ghost use Rattle.std.specs.Prelude.{◌≡◌};
 ghost use Rattle.key_layer.specs.Keys.{reached, fits};
 

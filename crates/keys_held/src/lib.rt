@@ -1,11 +1,13 @@
 // A key that holds the caller's bytes, and such a key beside the number of a refusal.
+#![tactic(auto)]
+
 ghost use Rattle.std.specs.Prelude.{◌≡◌};
 ghost use Rattle.keys_held.specs.Held.{holding};
 
 use keys_moved_numbers::Numbers;
 
 // The caller's bytes, and the key's numbers at a layer.
-#[derive(Drop)]
+#[derive(Clone, Copy)]
 pub struct Key<'a> {
     pub bytes: &'a [u8],
     pub ikey: u64,
@@ -14,7 +16,7 @@ pub struct Key<'a> {
 }
 
 // A key, beside the number of a refusal: 0 where nothing was refused.
-#[derive(Drop)]
+#[derive(Clone, Copy)]
 pub struct Keyed<'a> {
     pub refusal: u64,
     pub key: Key<'a>,

@@ -1,5 +1,7 @@
 // The bytes of a key that holds them: how many there are, where the suffix starts, the suffix, and all. The plain call is passed the slice
 // and the numbers and judges them, so nothing is asked of a key here, and the refusals are those of the plain call.
+#![tactic(auto)]
+
 ghost use Rattle.std.specs.Prelude.{◌≡◌};
 ghost use Rattle.key_layer.specs.Keys.{Len, SuffixStart};
 ghost use Rattle.key_layer.specs.Said.{said_count};

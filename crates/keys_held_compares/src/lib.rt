@@ -1,5 +1,7 @@
 // A key that holds its bytes against what else is passed. The plain call is passed the slice and the numbers and judges them, so nothing
 // is asked of a key here, and the refusals are those of the plain call.
+#![tactic(auto)]
+
 ghost use Rattle.std.specs.Prelude.{◌≡◌};
 ghost use Rattle.key_layer.specs.Keys.{Compare, CompareSuffix};
 ghost use Rattle.key_layer.specs.Said.{said_compared};

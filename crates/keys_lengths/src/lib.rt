@@ -1,5 +1,7 @@
 // How long a key is, as a whole and from its layer on, and how long its suffix is: the caller's bytes and three numbers by value (ikey,
 // shift count, suffix start). A key that does not fit its own bytes is refused with 7, and the numbers come back.
+#![tactic(auto)]
+
 ghost use Rattle.std.specs.Prelude.{◌≡◌};
 ghost use Rattle.key_layer.specs.Keys.{answer_to, Len, CurrentLen, SuffixLen};
 ghost use Rattle.key_layer.specs.Said.{said_count};

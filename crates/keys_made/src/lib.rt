@@ -1,4 +1,6 @@
 // Keys made and judged: the caller's bytes, and three numbers by value (ikey, shift count, suffix start).
+#![tactic(auto)]
+
 ghost use Rattle.std.specs.Prelude.{◌≡◌, []};
 ghost use Rattle.key_layer.specs.Keys.{answer_to, Judge, new_said};
 ghost use Rattle.key_layer.specs.Said.{said_made, said_judged};

@@ -1,5 +1,7 @@
 // What the plain calls say of a key that they make or move, as numbers alone: the refusal's number or 0, and the key's three numbers.
 // Here stand the numbers of such an answer and the shifts; crate `held_key` has the other moves.
+#![tactic(auto)]
+
 ghost use Rattle.std.specs.Prelude.{◌≡◌};
 ghost use Rattle.key_layer.specs.Keys.{shift_said, shift_by_said};
 ghost use Rattle.key_layer.specs.Said.{said_made, said_moved};
@@ -8,7 +10,7 @@ ghost use Rattle.keys_moved_numbers.specs.Numbers.{numbers_in};
 use key_layer::{Made, Moved};
 
 // The number of a refusal, 0 where nothing was refused, and the numbers of a key.
-#[derive(Drop)]
+#[derive(Clone, Copy)]
 pub struct Numbers {
     pub refusal: u64,
     pub ikey: u64,

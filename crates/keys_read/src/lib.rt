@@ -1,4 +1,6 @@
 // Eight bytes of a key as a number, the first one highest.
+#![tactic(auto)]
+
 ghost use Rattle.std.specs.Prelude.{◌≡◌};
 ghost use Rattle.order.specs.Layer.{ikey_at};
 

@@ -1,4 +1,6 @@
 // A key moved on by some bytes, all shifts or none.
+#![tactic(auto)]
+
 ghost use Rattle.std.specs.Prelude.{◌≡◌};
 ghost use Rattle.key_layer.specs.Keys.{shiftable, shift_by_said};
 ghost use Rattle.key_layer.specs.Said.{said_moved};

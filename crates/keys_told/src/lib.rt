@@ -1,5 +1,7 @@
 // What a key is asked with yes or no: the caller's bytes and three numbers by value (ikey, shift count, suffix start).
 // A key that does not fit its own bytes is refused with 7, and the numbers come back.
+#![tactic(auto)]
+
 ghost use Rattle.std.specs.Prelude.{◌≡◌};
 ghost use Rattle.key_layer.specs.Keys.{answer_to, IsEmpty, IsShifted, HasSuffix};
 ghost use Rattle.key_layer.specs.Said.{said_told};

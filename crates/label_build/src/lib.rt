@@ -1,4 +1,6 @@
 // Frame labels built from their fields, the highest byte of each first.
+#![tactic(auto)]
+
 ghost use Rattle.std.specs.Prelude.{◌≡◌, ◌++◌};
 ghost use Rattle.label_said.specs.Label.{first, second, fields, high_first, label_of};
 

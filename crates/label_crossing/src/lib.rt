@@ -1,4 +1,6 @@
 // An answer of a reader of labels taken apart for C: its number to return, what the label says into the lent numbers, or its edition byte.
+#![tactic(auto)]
+
 ghost use Rattle.std.specs.Prelude.{[], ◌∷◌};
 ghost use Rattle.label_read.specs.Answers.{said_label, said_first_label};
 ghost use Rattle.crossing.specs.Told.{CrossedBoth};

@@ -1,11 +1,13 @@
 // Frame labels read: by a reader of both editions, and by one that knows edition 1 alone. Neither asks anything of the bytes.
+#![tactic(auto)]
+
 ghost use Rattle.std.specs.Prelude.{◌≡◌, ◌+◌, ◌≤◌, ◌<◌, length, drop};
 ghost use Rattle.order.specs.Layer.{big_endian};
 ghost use Rattle.label_said.specs.Read.{read_said, read_first_said};
 ghost use Rattle.label_read.specs.Answers.{said_label, said_first_label};
 
 // What a reader of both editions finds.
-#[derive(Drop)]
+#[derive(Clone, Copy)]
 pub enum Label {
     First {
         station: u16,
@@ -22,7 +24,7 @@ pub enum Label {
 }
 
 // What a reader of edition 1 finds.
-#[derive(Drop)]
+#[derive(Clone, Copy)]
 pub enum FirstLabel {
     Fields { station: u16, burst: u32, frame: u8 },
     // 19: no label of edition 1; its edition byte, 0 where there is none

@@ -1,1 +1,2 @@
 // What frame labels are, and what reading one answers, with what follows from it. No code: read specs/.
+#![tactic(auto)]

@@ -1,5 +1,7 @@
 // Leaf search: a leaf is a slot word of width 15 and fifteen entries by value, and its cells are lent. The search judges the leaf,
 // the key and the lent lengths, and refuses by number.
+#![tactic(auto)]
+
 ghost use Rattle.std.specs.Prelude.{◌≡◌};
 ghost use Rattle.leaf.specs.Search.{said_searched, search_said};
 
@@ -9,7 +11,7 @@ use refusal::Refusal;
 pub mod inside;
 
 // What a search finds: the slot of the entry that it met, or the position where the key belongs. Refused, the word and the key's numbers.
-#[derive(Drop)]
+#[derive(Clone, Copy)]
 pub enum Searched {
     Found(usize),
     Conflict(usize),

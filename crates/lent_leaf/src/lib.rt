@@ -1,5 +1,7 @@
 // The search of a leaf whose entries are lent as a slice of records: a thin function above the search over fifteen entries by value.
 // With another number of entries than fifteen the lent lengths are wrong.
+#![tactic(auto)]
+
 ghost use Rattle.std.specs.Prelude.{◌≡◌};
 ghost use Rattle.leaf.specs.Search.{said_searched};
 ghost use Rattle.lent_leaf.specs.Search.{lent_search_said};

@@ -15,7 +15,7 @@ use memory_layout::{
 };
 
 // A leaf: its slot word, and three columns by slot.
-#[derive(Drop)]
+#[derive(Clone, Copy)]
 pub struct Leaf {
     pub word: u64,
     pub ikeys: [u64; 15],
@@ -24,7 +24,7 @@ pub struct Leaf {
 }
 
 // An internode: how many ikeys, the ikeys, and the children.
-#[derive(Drop)]
+#[derive(Clone, Copy)]
 pub struct Internode {
     pub n: u64,
     pub ikeys: [u64; 15],
@@ -32,7 +32,7 @@ pub struct Internode {
 }
 
 // The lowest free number, where there is one.
-#[derive(Drop)]
+#[derive(Clone, Copy)]
 pub enum Lowest {
     At(usize),
     Nothing,

@@ -4,7 +4,7 @@ ghost use Rattle.arena.specs.Parts.{put_part};
 ghost use Rattle.line_input.specs.Input.{taken_from, taken_over};
 
 // How many bytes of a part are used up, how many of the line are kept, and whether the line has ended.
-#[derive(Drop)]
+#[derive(Clone, Copy)]
 pub struct Taken {
     pub used: usize,
     pub kept: usize,

@@ -1,2 +1,4 @@
 // The lines of an input that comes in parts.
+#![tactic(auto)]
+
 pub mod inside;

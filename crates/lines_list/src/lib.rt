@@ -1,2 +1,4 @@
 // The listing of an index, printed to lent bytes.
+#![tactic(auto)]
+
 pub mod inside;

@@ -1,7 +1,8 @@
 // A whole session: standard input read to its end, and every line of it answered.
+#![tactic(auto)]
 
 // How the answers to an input end.
-#[derive(Drop)]
+#[derive(Clone, Copy)]
 pub enum Ended {
     // every line is answered, and every answer is written
     Whole,

@@ -1,4 +1,5 @@
 // The numbers of docs/LAYOUT.md, by name. Contracts have the same ones from specs/Numbers.antt.
+#![tactic(auto)]
 
 // The words before node 0.
 pub const HEADER_WORDS: usize = 2;

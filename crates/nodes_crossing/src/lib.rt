@@ -1,4 +1,6 @@
 // An answer of an internode taken apart for C: its number to return, its values into the lent numbers.
+#![tactic(auto)]
+
 ghost use Rattle.std.specs.Prelude.{◌≡◌, [], ◌∷◌, ◌++◌};
 ghost use Rattle.internode.specs.Answers.{said_place, said_child, said_compared, said_inserted};
 ghost use Rattle.crossing.specs.Crossing.{Crossed};

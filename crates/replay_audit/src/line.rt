@@ -7,7 +7,7 @@ use audit::Audited;
 use memory_layout::{CELL_BYTES, CELL_WORDS, HEADER_WORDS, NODE_WORDS};
 
 // How much of the memory is lent: words of nodes, words of cells, bytes.
-#[derive(Drop)]
+#[derive(Clone, Copy)]
 pub(crate) struct Lengths {
     pub nodes: usize,
     pub cells: usize,

@@ -1,5 +1,7 @@
 // Replays recorded verdicts on damaged memories through the audit: prints each line that differs, and at the end how many verdicts
 // there were and how many differ. tests/README.md says how the list was made.
+#![tactic(auto)]
+
 mod line;
 mod pace;
 

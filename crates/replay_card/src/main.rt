@@ -1,6 +1,8 @@
 // Replays recorded calls that save an index and load an image: prints each line that differs, and at the end how many calls there were and
 // how many differ. Each call has the sum of all that was lent to it, so that every word and byte is held to the plain index and the plain
 // image of tests/plain.
+#![tactic(auto)]
+
 mod calls;
 mod line;
 mod rooms;

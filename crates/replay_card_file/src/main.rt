@@ -1,5 +1,7 @@
 // Saves the labels of its input to a file and lists that file; then lists files that are refused and one that is not there, and saves where
 // it cannot.
+#![tactic(auto)]
+
 fn main() {
     card_commands::save(b"labels.card");
     card_commands::list(b"labels.card");

@@ -1,5 +1,7 @@
 // Replays recorded calls on the index: prints each line that differs, and at the end how many lines there were and how many differ.
 // Each line has the sum of the memory after the call, so that every word and byte is held to the plain index of tests/plain.
+#![tactic(auto)]
+
 mod line;
 
 use memory_layout::{CELL_BYTES, CELL_WORDS, HEADER_WORDS, NODE_WORDS};

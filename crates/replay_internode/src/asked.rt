@@ -3,7 +3,7 @@ use ikey::Ordering;
 use internode::{Child, Compared, Internode, Place, Verdict, inside};
 
 // What a call said: 0 or the number of a refusal, a value, and the node that is handed back.
-#[derive(Drop)]
+#[derive(Clone, Copy)]
 pub struct Said {
     pub number: u64,
     pub value: u64,

@@ -4,7 +4,7 @@ use key::{Compared, Count, Judged, Layer, Made, Moved, Told, Word};
 use refusal::Refusal;
 
 // What a call said: 0 or the number of a refusal, and three values, 0 where there is none.
-#[derive(Drop)]
+#[derive(Clone, Copy)]
 pub struct Said {
     pub number: u64,
     pub a: u64,

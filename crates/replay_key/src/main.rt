@@ -1,5 +1,7 @@
 // Replays a recorded sample of what the Rust's Key answers, and says where this repository's keys answer otherwise. Standard input
 // is a list of records of 64 bytes; oracle/key/README.md says what is in one.
+#![tactic(auto)]
+
 mod answers;
 mod asked;
 mod held;

@@ -4,7 +4,7 @@ ghost use Rattle.std.specs.Prelude.{◌≤◌, length};
 use label_read::{FirstLabel, Label};
 
 // What a reader said: 0, the edition and the fields; or 19 and the edition byte. What it did not say is 0.
-#[derive(Drop)]
+#[derive(Clone, Copy)]
 struct Said {
     number: u64,
     edition: u64,

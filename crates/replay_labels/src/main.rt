@@ -1,5 +1,7 @@
 // Replays the recorded answers on standard input through the libraries `label_build` and `label_read`: prints each line that differs, and
 // at the end how many answers there were and how many differ. tests/editions.py made the list.
+#![tactic(auto)]
+
 mod line;
 
 // Replays every line. No list is so long that the count of answers ends it.

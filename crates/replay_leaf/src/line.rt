@@ -6,7 +6,7 @@ use crate::lent;
 use leaf::{Entry, Searched};
 
 // What a search said: 0, the outcome and its number; or the refusal's number and the word.
-#[derive(Drop)]
+#[derive(Clone, Copy)]
 struct Said {
     number: u64,
     outcome: u64,

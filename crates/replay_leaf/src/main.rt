@@ -1,5 +1,7 @@
 // Replays the recorded answers on standard input through the libraries `leaf` and `lent_leaf`: prints each line that differs, and at
 // the end how many answers there were and how many differ. oracle/leaf/README.md says how the list was made.
+#![tactic(auto)]
+
 mod lent;
 mod line;
 

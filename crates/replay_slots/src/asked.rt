@@ -6,7 +6,7 @@ ghost use Rattle.replay_slots.specs.Recorded.{said_of, called};
 use permuter::{Changed, Inserted, Made, Told};
 
 // The number, the first value, the second and the third; 0 where there is none.
-#[derive(Drop)]
+#[derive(Clone, Copy)]
 pub struct Said {
     pub number: u64,
     pub first: u64,

@@ -1,5 +1,7 @@
 // Replays the recorded answers on standard input through the library `permuter`: prints each line that differs, and at
 // the end how many answers there were and how many differ. oracle/README.md says how the list was made.
+#![tactic(auto)]
+
 mod asked;
 mod line;
 

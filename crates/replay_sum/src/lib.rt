@@ -1,5 +1,7 @@
 // The sum of a memory, by which a recorded call tells what it left there: for each number, three times the sum so far and the number,
 // running round at 2^64.
+#![tactic(auto)]
+
 ghost use Rattle.std.specs.Prelude.{◌≡◌};
 ghost use Rattle.replay_sum.specs.Sums.{plus, onward, summed, of_memory};
 

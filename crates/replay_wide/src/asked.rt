@@ -2,7 +2,7 @@
 use wide_bank::{Changed, Handed, Inserted, Outcome, Told};
 
 // What a call said: 0 or the number of a refusal, a number told or 0, how many rest or 0, and the bank.
-#[derive(Drop)]
+#[derive(Clone, Copy)]
 pub struct Said {
     pub number: u64,
     pub told: u64,

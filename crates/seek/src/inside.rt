@@ -124,7 +124,7 @@ pub fn height_of(nodes: &[u64], root: u64) -> usize
 }
 
 // Where a key goes in a layer: the leaf for its ikey, and the position of its ikey and class there, or the size.
-#[derive(Drop)]
+#[derive(Clone, Copy)]
 pub struct Place {
     leaf: u64,
     position: usize,

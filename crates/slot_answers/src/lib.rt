@@ -1,15 +1,17 @@
 // The answers of the calls on slot words: what the crates above share, the questions, the places and the permuter.
+#![tactic(auto)]
+
 use refusal::Refusal;
 
 // A word that was changed, or the word as it was given.
-#[derive(Drop)]
+#[derive(Clone, Copy)]
 pub enum Changed {
     Word(u64),
     Refused { why: Refusal, word: u64 },
 }
 
 // The word after an insertion, the slot handed out and how many rest, or the word as it was given.
-#[derive(Drop)]
+#[derive(Clone, Copy)]
 pub enum Inserted {
     Slot {
         word: u64,
@@ -23,14 +25,14 @@ pub enum Inserted {
 }
 
 // A number told of a word, or the word as it was given.
-#[derive(Drop)]
+#[derive(Clone, Copy)]
 pub enum Told {
     Number(usize),
     Refused { why: Refusal, word: u64 },
 }
 
 // A word that was made.
-#[derive(Drop)]
+#[derive(Clone, Copy)]
 pub enum Made {
     Word(u64),
     Refused(Refusal),

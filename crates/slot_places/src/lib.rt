@@ -1,5 +1,7 @@
 // Slot words whose positions change places, or whose size is set. The width goes beside the word; a word goes in by value and comes
 // back in the answer. Every call judges its width and its word, and refuses by number.
+#![tactic(auto)]
+
 ghost use Rattle.std.specs.Prelude.{◌≡◌};
 ghost use Rattle.bank.specs.Calls.{set_size, swap_free_slots, exchange, rotate};
 ghost use Rattle.slot_answers.specs.Words.{changed};

@@ -1,5 +1,7 @@
 // What a slot word is asked. The width goes beside the word, which goes in by value. Every call judges its width and its word, and refuses
 // by number.
+#![tactic(auto)]
+
 ghost use Rattle.std.specs.Prelude.{◌≡◌};
 ghost use Rattle.bank.specs.Calls.{size, get, back, back_at_offset};
 ghost use Rattle.slot_answers.specs.Words.{asked};

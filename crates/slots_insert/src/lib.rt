@@ -1,5 +1,7 @@
 // Insertion into a slot word. The width goes beside the word, which goes in by value and comes back in the answer. The call judges its
 // width and its word, and refuses by number.
+#![tactic(auto)]
+
 ghost use Rattle.std.specs.Prelude.{◌≡◌, [], ◌∷◌};
 ghost use Rattle.refusal.specs.Answer.{refused};
 ghost use Rattle.bank.specs.Calls.{insert_from_back};

@@ -1,5 +1,7 @@
 // Slot words made, and taken in from outside. The width goes beside the word. Every call judges its width, and its word if it has one, and
 // refuses by number.
+#![tactic(auto)]
+
 ghost use Rattle.std.specs.Prelude.{◌≡◌};
 ghost use Rattle.bank.specs.Calls.{from_value};
 ghost use Rattle.slot_answers.specs.Words.{changed, made_sorted, made_empty};

@@ -1,5 +1,7 @@
 // Removal from a slot word, and its opposite. The width goes beside the word, which goes in by value and comes back in the answer. Every
 // call judges its width and its word, and refuses by number.
+#![tactic(auto)]
+
 ghost use Rattle.std.specs.Prelude.{◌≡◌};
 ghost use Rattle.bank.specs.Calls.{insert_first_free, remove, remove_to_back, remove_slot};
 ghost use Rattle.slot_answers.specs.Words.{changed};

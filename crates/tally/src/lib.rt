@@ -1,8 +1,10 @@
 // What the programs that replay recorded answers share: how many answers there were, how many differ, and what is printed of it.
+#![tactic(auto)]
+
 ghost use Rattle.std.specs.Prelude.{◌≡◌, cond, ◌+◌, min};
 
 // How many answers were replayed, and how many differed.
-#[derive(Drop)]
+#[derive(Clone, Copy)]
 pub struct Tally {
     pub answers: u64,
     pub mismatches: u64,

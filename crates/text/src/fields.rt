@@ -5,7 +5,7 @@ ghost use Rattle.text.specs.Fields.{same as Fields·same, is_hex, is_pairs, is_k
 ghost use Rattle.text.specs.Command.{frame_if};
 
 // A frame number, where a field is one.
-#[derive(Drop)]
+#[derive(Clone, Copy)]
 pub(crate) enum Frame {
     Number(u64),
     Nothing,

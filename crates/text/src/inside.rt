@@ -8,7 +8,7 @@ use crate::fields;
 use fields::Frame;
 
 // What a line asks for; the key stands in the buffer, here is its length.
-#[derive(Drop)]
+#[derive(Clone, Copy)]
 pub enum Line {
     Put { len: usize, frame: u64 },
     Find { len: usize },

@@ -1,4 +1,6 @@
 // One line read: what it asks for. Everything stands on slices that the caller lends.
+#![tactic(auto)]
+
 mod fields;
 pub mod inside;
 

@@ -1,4 +1,6 @@
 // An answer of a wide bank taken apart for C: its number to return, its bank into the lent 25 bytes, its numbers into the lent ones.
+#![tactic(auto)]
+
 ghost use Rattle.std.specs.Prelude.{[], ◌∷◌, ◌++◌};
 ghost use Rattle.wide_answers.specs.Answers.{said_changed, said_inserted, said_told};
 ghost use Rattle.crossing.specs.Crossing.{Crossed};

@@ -1,5 +1,7 @@
 // Insertion into a wide bank. The width goes beside the bank, which goes in by value and comes back in the answer. The call judges its
 // width and its bank, and refuses by number.
+#![tactic(auto)]
+
 ghost use Rattle.std.specs.Prelude.{◌≡◌};
 ghost use Rattle.bank.specs.Calls.{insert_from_back};
 ghost use Rattle.wide_answers.specs.Wides.{changed};

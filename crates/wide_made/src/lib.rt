@@ -1,5 +1,7 @@
 // Wide banks made, and taken in from outside. The width goes beside the bank. Every call judges its width, and its bank if it has one, and
 // refuses by number.
+#![tactic(auto)]
+
 ghost use Rattle.std.specs.Prelude.{◌≡◌};
 ghost use Rattle.bank.specs.Calls.{from_value};
 ghost use Rattle.wide_answers.specs.Wides.{changed, made_sorted, made_empty};

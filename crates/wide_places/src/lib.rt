@@ -1,5 +1,7 @@
 // Wide banks whose positions change places. The width goes beside the bank, which goes in by value and comes back in the answer. Every
 // call judges its width and its bank, and refuses by number.
+#![tactic(auto)]
+
 ghost use Rattle.std.specs.Prelude.{◌≡◌};
 ghost use Rattle.bank.specs.Calls.{exchange, rotate};
 ghost use Rattle.wide_answers.specs.Wides.{changed};

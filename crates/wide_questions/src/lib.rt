@@ -1,5 +1,7 @@
 // What a wide bank is asked. The width goes beside the bank, which goes in by value. Every call judges its width and its bank, and refuses
 // by number.
+#![tactic(auto)]
+
 ghost use Rattle.std.specs.Prelude.{◌≡◌};
 ghost use Rattle.bank.specs.Calls.{size, get, back};
 ghost use Rattle.wide_answers.specs.Wides.{asked};

@@ -1,5 +1,7 @@
 // Removal from a wide bank, and its opposite. The width goes beside the bank, which goes in by value and comes back in the answer. Every
 // call judges its width and its bank, and refuses by number.
+#![tactic(auto)]
+
 ghost use Rattle.std.specs.Prelude.{◌≡◌};
 ghost use Rattle.bank.specs.Calls.{insert_first_free, remove, remove_to_back, remove_slot};
 ghost use Rattle.wide_answers.specs.Wides.{changed};
