@@ -2,4 +2,4 @@ pub mod Fitting
 pub mod Layers
 pub mod One
 pub mod Parts
-pub mod Told
+pub mod Telling

@@ -10,7 +10,7 @@ use Rattle.keys_parts.proofs.inside.full_data.Symbol as g-def
 use Rattle.keys_parts.proofs.inside.full_data.Symbol.{name as #g}
 use Rattle.keys_parts.proofs.inside.full_data.Met as g-thm
 use Rattle.key.specs.Parts.{IsData}
-use Rattle.key.proofs.Told.{data-told}
+use Rattle.key.proofs.Telling.{data-told}
 use Rattle.key.proofs.Parts.{Numbers, Asks, parts}
 use Rattle.key.specs.contracts.full_data.Key.{name as #f}
 use Rattle.key.specs.contracts.full_data as f

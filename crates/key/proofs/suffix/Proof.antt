@@ -10,7 +10,7 @@ use Rattle.keys_parts.proofs.inside.suffix.Symbol as g-def
 use Rattle.keys_parts.proofs.inside.suffix.Symbol.{name as #g}
 use Rattle.keys_parts.proofs.inside.suffix.Met as g-thm
 use Rattle.key.specs.Parts.{IsSuffix}
-use Rattle.key.proofs.Told.{suffix-told}
+use Rattle.key.proofs.Telling.{suffix-told}
 use Rattle.key.proofs.Parts.{Numbers, Asks, parts}
 use Rattle.key.specs.contracts.suffix.Key.{name as #f}
 use Rattle.key.specs.contracts.suffix as f
