@@ -2,7 +2,7 @@
 use mathlib.Core.List.{List, [], ◌∷◌}
 use mathlib.Core.Logic.{◌≢◌}
 use mathlib.Core.Option.{Option, none, some}
-use mathlib.Core.Path.{◌≡◌, refl, ap, ◌∙◌}
+use mathlib.Core.Path.{◌≡◌, refl, sym, ap, ◌∙◌, subst}
 use Prim.Native.Nat.{ℕ, ◌≤◌, ◌<◌, zero, suc, ◌+◌}
 use native.Mathlib.Omega.{arith}
 use lib.ListN.{get_or, length, set}
@@ -46,7 +46,9 @@ free-cell-there [] i n h e = absurd (omega arith)
 free-cell-there (none ∷ cs) i zero h e = let z : i + 0 ≡ i = omega arith in rw z (omega (arith, one_at-same i))
 free-cell-there (some y ∷ cs) i zero h e = let z : ◌≡◌ {A = ℕ} 0 1 = cc in absurd (omega arith)
 free-cell-there (none ∷ cs) i (suc n) h e =
-    let z : i + suc n ≡ suc i + n = omega arith in rw z (omega (arith, free-cell-there cs (suc i) n (omega arith) e))
+    let z : i + suc n ≡ suc i + n = omega arith in
+    subst (λ (k : ℕ). 1 ≤ times_in (free_cell_numbers i (none ∷ cs)) k) (sym z)
+    (omega (arith, free-cell-there cs (suc i) n (omega arith) e))
 free-cell-there (some y ∷ cs) i (suc n) h e =
     let z : i + suc n ≡ suc i + n = omega arith in rw z (free-cell-there cs (suc i) n (omega arith) e)
 

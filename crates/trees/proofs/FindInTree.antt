@@ -61,10 +61,11 @@ module _ (W : Type 0) (top : ℕ) where
   module _ (k : IkeyClass) where
     children-find : (d : ℕ) → ((lo hi : ℕ) (p : ℕ × TreeOver W d) → lo ≤ k.0 → k.0 < hi → WellFormed W top d lo hi p.1
         → tree_find W d k p ≡ lookup layer_order k (tree_entries W d p.1))
-        → {lo hi : ℕ} {ps : List (ℕ × TreeOver W d)} → lo ≤ k.0 → k.0 < hi → Abutting (WellFormed W top d) hi lo ps
+        → {hi lo : ℕ} {ps : List (ℕ × TreeOver W d)} → lo ≤ k.0 → k.0 < hi → Abutting (WellFormed W top d) hi lo ps
         → of_child none (tree_find W d k) k.0 ps ≡ lookup layer_order k (flattened (λ p. tree_entries W d p.1) ps)
-    children-find d ih {lo} {hi} h i (last_child {p = p} e l r) = ih lo hi p h i r ∙ ap (lookup layer_order k) (sym (append-nil _))
-    children-find d ih {lo} {hi} h i (and_next s {p = p} {ps = q ∷ qs} e l r c) =
+    children-find d ih {hi} {lo} h i (last_child {p = p} e l r) = ih lo hi p h i r ∙ ap (lookup layer_order k) (sym (append-nil _))
+    children-find d ih h i (and_next s {ps = []} e l r c) = elim c [ ]
+    children-find d ih {hi} {lo} h i (and_next s {p = p} {ps = q ∷ qs} e l r c) =
         let low : q.0 ≡ s = abutting-low c in
         let L : List (ℕ × TreeOver W d) → List (IkeyClass × W) = flattened (λ p. tree_entries W d p.1) in
         cond_ind (λ a. a ≡ lookup layer_order k (tree_entries W d p.1 ++ L (q ∷ qs))) (ltb k.0 q.0)
@@ -83,10 +84,10 @@ module _ (W : Type 0) (top : ℕ) where
   -- ---- the listing is sorted
 
   abutting-sorted : (d : ℕ) → ((lo hi : ℕ) (t : TreeOver W d) → WellFormed W top d lo hi t → Sorted layer_order (tree_entries W d t))
-      → {lo hi : ℕ} {ps : List (ℕ × TreeOver W d)} → Abutting (WellFormed W top d) hi lo ps
+      → {hi lo : ℕ} {ps : List (ℕ × TreeOver W d)} → Abutting (WellFormed W top d) hi lo ps
       → Sorted layer_order (flattened (λ p. tree_entries W d p.1) ps)
-  abutting-sorted d ih {lo} {hi} (last_child {p = p} e l r) = subst (Sorted layer_order) (sym (append-nil _)) (ih lo hi p.1 r)
-  abutting-sorted d ih {lo} {hi} (and_next s {p = p} e l r c) =
+  abutting-sorted d ih {hi} {lo} (last_child {p = p} e l r) = subst (Sorted layer_order) (sym (append-nil _)) (ih lo hi p.1 r)
+  abutting-sorted d ih {hi} {lo} (and_next s {p = p} e l r c) =
       sorted-append (ih lo s p.1 r) (abutting-sorted d ih c)
       (all_map (λ x i. all_map (λ y j. layer_order-lt x.0 y.0 (omega arith))
       (abutting-bounds (tree_entries W d) (well-formed-bounds W top d) c)) (well-formed-bounds W top d lo s p.1 r))
@@ -101,10 +102,11 @@ module _ (W : Type 0) (top : ℕ) where
       (ok : (es : List (IkeyClass × W)) → lookup layer_order k es ≡ o → length (alter layer_order k f es) ≤ length es) where
     children-need-nothing : (d up : ℕ) → ((lo hi : ℕ) (p : ℕ × TreeOver W d) → WellFormed W top d lo hi p.1 → tree_find W d k p ≡ o
         → tree_needs W top mid cut d k f p up ≡ 0)
-        → {lo hi : ℕ} {ps : List (ℕ × TreeOver W d)} → Abutting (WellFormed W top d) hi lo ps
+        → {hi lo : ℕ} {ps : List (ℕ × TreeOver W d)} → Abutting (WellFormed W top d) hi lo ps
         → of_child none (tree_find W d k) k.0 ps ≡ o → of_child 0 (λ q. tree_needs W top mid cut d k f q up) k.0 ps ≡ 0
-    children-need-nothing d up ih {lo} {hi} (last_child {p = p} e l r) q = ih lo hi p r q
-    children-need-nothing d up ih {lo} {hi} (and_next s {p = p} {ps = p' ∷ ps} e l r c) q =
+    children-need-nothing d up ih {hi} {lo} (last_child {p = p} e l r) q = ih lo hi p r q
+    children-need-nothing d up ih (and_next s {ps = []} e l r c) q = elim c [ ]
+    children-need-nothing d up ih {hi} {lo} (and_next s {p = p} {ps = p' ∷ ps} e l r c) q =
         cond-ind₂ (λ a b. a ≡ o → b ≡ 0) (ltb k.0 p'.0) (λ t. ih lo s p r) (λ t. children-need-nothing d up ih c) q
 
     pub needs-nothing : (d up lo hi : ℕ) (p : ℕ × TreeOver W d) → WellFormed W top d lo hi p.1 → tree_find W d k p ≡ o

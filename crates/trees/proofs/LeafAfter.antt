@@ -33,9 +33,10 @@ module _ {C A : Type 0} {R : ℕ → ℕ → C → Type 0} (z : A) (g : ℕ × C
   before-low (and_next s e l r c) = ap (ltb x) e
 
   -- children that begin beyond x can be left out
-  leads-first : {lo s hi : ℕ} {ps qs : List (ℕ × C)} → Abutting R s lo ps → Abutting R hi s qs → x < s
+  leads-first : {s lo hi : ℕ} {ps qs : List (ℕ × C)} → Abutting R s lo ps → Abutting R hi s qs → x < s
       → of_child z g x (ps ++ qs) ≡ of_child z g x ps
   leads-first {s = s} (last_child e l r) d h = rw (before-low d, lt-ltb x s h)
+  leads-first (and_next t {ps = []} e l r c) d h = elim c [ ]
   leads-first (and_next t {p = p} {ps = q ∷ qs} e l r c) d h = ap (cond (ltb x q.0) (g p)) (leads-first c d h)
 
   -- and so can one that ends before it
@@ -64,10 +65,11 @@ module _ {C A : Type 0} {R : ℕ → ℕ → C → Type 0} (z : A) (g : ℕ × C
   module _ (go : ℕ × C → List ℕ → TreesAndFree C) (fs : List ℕ) (F : A → A)
       (side : (lo hi : ℕ) (p : ℕ × C) → p.0 ≡ lo → lo ≤ x → x < hi → lo < hi → R lo hi p.1 → Abutting R hi lo (go p fs).0)
       (ok : (lo hi : ℕ) (p : ℕ × C) → p.0 ≡ lo → lo ≤ x → x < hi → lo < hi → R lo hi p.1 → of_child z g x (go p fs).0 ≡ F (g p)) where
-    leads-changed : {lo hi : ℕ} {ps : List (ℕ × C)} → lo ≤ x → x < hi → Abutting R hi lo ps
+    leads-changed : {hi lo : ℕ} {ps : List (ℕ × C)} → lo ≤ x → x < hi → Abutting R hi lo ps
         → of_child z g x (through_child go x ps fs).0 ≡ F (of_child z g x ps)
-    leads-changed {lo} {hi} h k (last_child {p = p} e l r) = rw append-nil (ok lo hi p e h k l r)
-    leads-changed {lo} {hi} h k (and_next s {p = p} {ps = q ∷ qs} e l r c) =
+    leads-changed {hi} {lo} h k (last_child {p = p} e l r) = rw append-nil (ok lo hi p e h k l r)
+    leads-changed h k (and_next s {ps = []} e l r c) = elim c [ ]
+    leads-changed {hi} {lo} h k (and_next s {p = p} {ps = q ∷ qs} e l r c) =
         let low : q.0 ≡ s = abutting-low c in
         cond-ind₂ (λ (a : TreesAndFree C) (b : A). of_child z g x a.0 ≡ F b) (ltb x q.0)
         (λ t. let before : x < s = omega (arith, ltb→lt x q.0 t) in

@@ -45,11 +45,11 @@ module _ (W : Type 0) (top mid : ℕ) (cut : List (IkeyClass × W) → ℕ) wher
     -- of the children: what the chosen one needs, and how long the list gets
     children-need : (d : ℕ) → ((up : ℕ) (q : ℕ × TreeOver W d) (lo hi : ℕ) → WellFormed W top d lo hi q.1
         → tree_needs W top mid cut d k f q up ≡ split_nodes W top mid cut d k f q fs + cond (stays_one W top mid cut d k f q fs) 0 up)
-        → (up : ℕ) {lo hi : ℕ} {ps : List (ℕ × TreeOver W d)} → Abutting (WellFormed W top d) hi lo ps
+        → (up : ℕ) {hi lo : ℕ} {ps : List (ℕ × TreeOver W d)} → Abutting (WellFormed W top d) hi lo ps
         → (b : Bool) × (length (through_child (tree_put W top mid cut d k f) k.0 ps fs).0 ≡ length ps + cond b 0 1)
         × (of_child 0 (λ q. tree_needs W top mid cut d k f q up) k.0 ps
         ≡ of_child 0 (λ q. split_nodes W top mid cut d k f q fs) k.0 ps + cond b 0 up)
-    children-need d ih up {lo} {hi} (last_child {p = p} e l r) = (
+    children-need d ih up {hi} {lo} (last_child {p = p} e l r) = (
       stays_one W top mid cut d k f p fs,
       (let z = tree_put-size d p in let y = length-append (tree_put W top mid cut d k f p fs).0 [] in let x = fix
           (stays_one W top mid cut d k f p fs) in omega (arith, z, y, x)),
@@ -59,7 +59,8 @@ module _ (W : Type 0) (top mid : ℕ) (cut : List (IkeyClass × W) → ℕ) wher
         fix : (b : Bool) → cond b 1 2 ≡ 1 + cond b 0 1
         fix true = refl
         fix false = refl
-    children-need d ih up {lo} {hi} (and_next s {p = p} {ps = q ∷ qs} e l r c) = go (ltb k.0 q.0) (children-need d ih up c)
+    children-need d ih up (and_next s {ps = []} e l r c) = elim c [ ]
+    children-need d ih up {hi} {lo} (and_next s {p = p} {ps = q ∷ qs} e l r c) = go (ltb k.0 q.0) (children-need d ih up c)
       where
         fix : (b : Bool) → cond b 1 2 ≡ 1 + cond b 0 1
         fix true = refl

@@ -26,7 +26,7 @@ use Rattle.trees.proofs.NeededInLayer.{tree_put-size, need-is}
 module _ (W : Type 0) (top mid : ℕ) (cut : List (IkeyClass × W) → ℕ) (hi : ℕ) where
   -- the first low ikeys, of the rules
   abutting-lows : (d : ℕ) → ((lo h : ℕ) (t : TreeOver W d) → WellFormed W top d lo h t → LowsAgree W d (lo, t))
-      → {lo h : ℕ} {ps : List (ℕ × TreeOver W d)} → Abutting (WellFormed W top d) h lo ps
+      → {h lo : ℕ} {ps : List (ℕ × TreeOver W d)} → Abutting (WellFormed W top d) h lo ps
       → (0 < length ps) × (low_of_children ps ≡ lo) × All (LowsAgree W d) ps
   abutting-lows d f (last_child {p = p} e l r) = (omega arith, e, subst (λ x. LowsAgree W d (x, p.1)) (sym e) (f _ _ p.1 r) a∷ a[])
   abutting-lows d f (and_next s {p = p} e l r c) = (
@@ -52,6 +52,8 @@ module _ (W : Type 0) (top mid : ℕ) (cut : List (IkeyClass × W) → ℕ) (hi 
       → Abutting (WellFormed W top d) hi 0 ps → All (λ p. HoldsTree W m d p.1) ps → ((j : ℕ) → children_reach d ps j + times_in fs j ≤ 1)
       → TreeBecame (children_reach d ps) (cond b 0 1) m (with_root W d ps fs) (memory_with_root W (map (numbered (tree_root W d)) ps) m)
       × (any_entries W (with_root W d ps fs) ≡ flattened (λ p. tree_entries W d p.1) ps)
+  root-became d [] fs m b tp le en fe c hs o = elim c [ ]
+  root-became d (p ∷ []) fs m true tp le en fe (and_next s _ _ _ c) hs o = elim c [ ]
   root-became d (p ∷ []) fs m true tp le en fe (last_child e l r) (h a∷ a[]) o = (
     record { rooted = refl; holds = (r, h); left = refl; size = refl; same = λ j a b. refl; keep = λ j. omega arith },
     sym (append-nil _),

@@ -16,11 +16,11 @@ use Rattle.trees.specs.TreePut.{TreesAndFree, store_or_split, before_next, throu
 use Rattle.trees.proofs.Nodes.{layer_order-lt, layer-order, cond_ind}
 
 module _ {C : Type 0} {R : ℕ → ℕ → C → Type 0} where
-  pub abutting-lt : {lo hi : ℕ} {ps : List (ℕ × C)} → Abutting R hi lo ps → lo < hi
+  pub abutting-lt : {hi lo : ℕ} {ps : List (ℕ × C)} → Abutting R hi lo ps → lo < hi
   abutting-lt (last_child e h r) = h
   abutting-lt (and_next s e h r c) = omega (arith, abutting-lt c)
 
-  pub abutting-append : {lo s hi : ℕ} {ps qs : List (ℕ × C)} → Abutting R s lo ps → Abutting R hi s qs → Abutting R hi lo (ps ++ qs)
+  pub abutting-append : {s lo hi : ℕ} {ps qs : List (ℕ × C)} → Abutting R s lo ps → Abutting R hi s qs → Abutting R hi lo (ps ++ qs)
   abutting-append {s = s} (last_child e h r) d = and_next s e h r d
   abutting-append (and_next t e h r c) d = and_next t e h r (abutting-append c d)
 
@@ -50,7 +50,7 @@ wider-bounds h k ps = all_map (λ e p. (omega arith, omega arith, p.2)) ps
 
 module _ {W C : Type 0} {R : ℕ → ℕ → C → Type 0} (L : C → List (IkeyClass × W))
     (bound : (lo hi : ℕ) (t : C) → R lo hi t → All (InBounds lo hi) (L t)) where
-  pub abutting-bounds : {lo hi : ℕ} {ps : List (ℕ × C)} → Abutting R hi lo ps → All (InBounds lo hi) (flattened (λ p. L p.1) ps)
+  pub abutting-bounds : {hi lo : ℕ} {ps : List (ℕ × C)} → Abutting R hi lo ps → All (InBounds lo hi) (flattened (λ p. L p.1) ps)
   abutting-bounds (last_child e h r) = all_append (bound _ _ _ r) a[]
   abutting-bounds (and_next s e h r c) = all_append (wider-bounds (omega arith) (omega (arith, abutting-lt c)) (bound _ _ _ r))
       (wider-bounds (omega arith) (omega arith) (abutting-bounds c))
@@ -91,9 +91,10 @@ module _ {C : Type 0} (go : ℕ × C → List ℕ → TreesAndFree C) (x : ℕ) 
 
   pub through_child-abutting : {R : ℕ → ℕ → C → Type 0}
       → ((lo hi : ℕ) (p : ℕ × C) → p.0 ≡ lo → lo ≤ x → x < hi → lo < hi → R lo hi p.1 → Abutting R hi lo (go p fs).0)
-      → {lo hi : ℕ} {ps : List (ℕ × C)} → lo ≤ x → x < hi → Abutting R hi lo ps → Abutting R hi lo (through_child go x ps fs).0
-  through_child-abutting f {lo} {hi} h k (last_child {p = p} e l r) = rw append-nil (f lo hi p e h k l r)
-  through_child-abutting {R} f {lo} {hi} h k (and_next s {p = p} {ps = q ∷ qs} e l r c) =
+      → {hi lo : ℕ} {ps : List (ℕ × C)} → lo ≤ x → x < hi → Abutting R hi lo ps → Abutting R hi lo (through_child go x ps fs).0
+  through_child-abutting f {hi} {lo} h k (last_child {p = p} e l r) = rw append-nil (f lo hi p e h k l r)
+  through_child-abutting f h k (and_next s {ps = []} e l r c) = elim c [ ]
+  through_child-abutting {R} f {hi} {lo} h k (and_next s {p = p} {ps = q ∷ qs} e l r c) =
       let low : q.0 ≡ s = abutting-low c in
       cond_ind (λ (r : TreesAndFree C). Abutting R hi lo r.0) (ltb x q.0)
       (λ t. abutting-append (f lo s p e h (omega (arith, ltb→lt x q.0 t)) l r) c)
@@ -108,10 +109,11 @@ module _ {W C : Type 0} {R : ℕ → ℕ → C → Type 0} (L : C → List (Ikey
   abbrev entries_of_child : ℕ × C → List (IkeyClass × W)
   entries_of_child p = L p.1
 
-  pub through_child-list : {lo hi : ℕ} {ps : List (ℕ × C)} → lo ≤ k.0 → k.0 < hi → Abutting R hi lo ps
+  pub through_child-list : {hi lo : ℕ} {ps : List (ℕ × C)} → lo ≤ k.0 → k.0 < hi → Abutting R hi lo ps
       → flattened entries_of_child (through_child go k.0 ps fs).0 ≡ alter layer_order k f (flattened entries_of_child ps)
-  through_child-list {lo} {hi} h i (last_child {p = p} e l r) = rw (append-nil, append-nil) (ok lo hi p e h i l r)
-  through_child-list {lo} {hi} h i (and_next s {p = p} {ps = q ∷ qs} e l r c) =
+  through_child-list {hi} {lo} h i (last_child {p = p} e l r) = rw (append-nil, append-nil) (ok lo hi p e h i l r)
+  through_child-list h i (and_next s {ps = []} e l r c) = elim c [ ]
+  through_child-list {hi} {lo} h i (and_next s {p = p} {ps = q ∷ qs} e l r c) =
       let low : q.0 ≡ s = abutting-low c in
       cond_ind (λ (r : TreesAndFree C). flattened entries_of_child r.0
       ≡ alter layer_order k f (entries_of_child p ++ flattened entries_of_child (q ∷ qs))) (ltb k.0 q.0)

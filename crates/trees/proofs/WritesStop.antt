@@ -101,13 +101,13 @@ module _ (W : Type 0) (top mid : ℕ) (cut : List (IkeyClass × W) → ℕ) (k :
       → WellFormed W top d lo hi p.1 → LowsAgree W d p → HoldsTree W m d p.1
       → ((j : ℕ) → tree_reaches W d p.1 j + times_in fs j ≤ 1)
       → stopping_put W top mid cut d k f (numbered (tree_root W d) p) m ≡ memory_put W top mid cut d k f (numbered (tree_root W d) p) m)
-      → {lo hi : ℕ} {ps : List (ℕ × TreeOver W d)} → Abutting (WellFormed W top d) hi lo ps → All (LowsAgree W d) ps
+      → {hi lo : ℕ} {ps : List (ℕ × TreeOver W d)} → Abutting (WellFormed W top d) hi lo ps → All (LowsAgree W d) ps
       → All (λ p. HoldsTree W m d p.1) ps → ((j : ℕ) → total (λ p. tree_reaches W d p.1 j) ps + times_in fs j ≤ 1)
       → All (λ p. split_nodes W top mid cut d k f p fs ≤ length fs
       → stopping_put W top mid cut d k f (numbered (tree_root W d) p) m ≡ memory_put W top mid cut d k f (numbered (tree_root W d) p) m) ps
-  children-stopping-same d ih {lo} {hi} (last_child {p = p} e l r) (a a∷ bs) (h a∷ hs) u =
+  children-stopping-same d ih {hi} {lo} (last_child {p = p} e l r) (a a∷ bs) (h a∷ hs) u =
       (λ le. ih p lo hi le r a h (λ j. omega (arith, u j))) a∷ a[]
-  children-stopping-same d ih {lo} {hi} (and_next s {p = p} e l r c) (a a∷ bs) (h a∷ hs) u =
+  children-stopping-same d ih {hi} {lo} (and_next s {p = p} e l r c) (a a∷ bs) (h a∷ hs) u =
       (λ le. ih p lo s le r a h (λ j. omega (arith, u j))) a∷ children-stopping-same d ih c bs hs (λ j. omega (arith, u j))
 
   pub stopping-same : (d : ℕ) (p : ℕ × TreeOver W d) (lo hi : ℕ) → split_nodes W top mid cut d k f p fs ≤ length fs
