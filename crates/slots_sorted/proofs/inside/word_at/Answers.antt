@@ -3,4 +3,4 @@ use Rattle.slots_sorted.proofs.Table.{entry-none}
 use Rattle.slots_sorted.proofs.inside.word_at.Goals as goal
 
 pub returns-in_default : goal.returns-in_default
-returns-in_default c = entry-none _ c.in_default.rest
+returns-in_default c = entry-none _ c.in_default.in_default-own.rest
