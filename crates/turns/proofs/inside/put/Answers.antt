@@ -10,13 +10,12 @@ join-requires c =
     (omega arith, omega arith, high_lt _ _ c.args.width 15 c.high.ensures c.requires.3 (omega arith))
 
 pub join-requires-2 : goal.join-requires-2
-join-requires-2 c =
-    (
-      omega arith,
-      low-lt _ _ c.low.ensures,
-      join-lt (15 - c.args.k - 1) 1 _ c.join.ensures (high_lt _ _ c.args.width _ c.high.ensures c.requires.3
-          (omega arith)) (omega arith) (omega arith),
-    )
+join-requires-2 c = (
+  omega arith,
+  low-lt _ _ c.low.ensures,
+  join-lt (15 - c.args.k - 1) 1 _ c.join.ensures (high_lt _ _ c.args.width _ c.high.ensures c.requires.3
+      (omega arith)) (omega arith) (omega arith),
+)
 
 pub returns : goal.returns
 returns c =

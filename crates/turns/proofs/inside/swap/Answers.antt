@@ -15,23 +15,21 @@ put-one-requires c =
     (c.requires.0, c.requires.2, omega (arith, c.nibble.ensures), positions-lt _ _ c.positions-slots.ensures)
 
 pub put-both-requires : goal.put-both-requires
-put-both-requires c =
-    (
-      c.requires.1,
-      c.requires.2,
-      omega (arith, c.nibble-2.ensures),
-      put-lt _ _ _ _ c.requires.0
-          (omega (arith, c.nibble.ensures)) c.put-one.ensures,
-    )
+put-both-requires c = (
+  c.requires.1,
+  c.requires.2,
+  omega (arith, c.nibble-2.ensures),
+  put-lt _ _ _ _ c.requires.0
+      (omega (arith, c.nibble.ensures)) c.put-one.ensures,
+)
 
 pub join-requires : goal.join-requires
-join-requires c =
-    (
-      omega arith,
-      omega (arith, c.low.ensures),
-      wider c.args.width 15 c.requires.2
-          (put-lt _ _ _ _ c.requires.1 (omega (arith, c.nibble-2.ensures)) c.put-both.ensures),
-    )
+join-requires c = (
+  omega arith,
+  omega (arith, c.low.ensures),
+  wider c.args.width 15 c.requires.2
+      (put-lt _ _ _ _ c.requires.1 (omega (arith, c.nibble-2.ensures)) c.put-both.ensures),
+)
 
 pub returns : goal.returns
 returns c =
