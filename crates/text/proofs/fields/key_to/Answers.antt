@@ -1,0 +1,9 @@
+-- `fields::key_to` meets its contract. Assumes nothing.
+use Rattle.text.proofs.Keys.{dash-length, dash-bytes, key-length, key-bytes}
+use Rattle.text.proofs.fields.key_to.Goals as goal
+
+pub returns-then-same : goal.returns-then-same
+returns-then-same c = (search dash-length, search dash-bytes)
+
+pub returns : goal.returns
+returns c = (search key-length, search key-bytes)
