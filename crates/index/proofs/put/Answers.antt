@@ -9,7 +9,7 @@ returns-then-key-gt-LONGEST c = search put-long
 
 pub returns-then-not-is_tree : goal.returns-then-not-is_tree
 returns-then-not-is_tree c =
-    put-unfit _ _ _ _ _ c.if1.false c.is_tree.ensures
+    put-unfit _ _ _ _ _ c.if-key-gt-LONGEST.false c.is_tree.ensures
     (not-true _ c.if-not-is_tree.true-raw)
 
 pub put_lent-requires : goal.put_lent-requires

@@ -6,6 +6,5 @@ use Rattle.index_leaf_grow.proofs.inside.put_halves.Goals as goal
 -- the memory that is left, and what became of the leaf, by what each call did
 pub returns : goal.returns
 returns c =
-    let s = f.before.before.before in
-    leaf-two _ _ _ _ s.requires.3 c.lowest-right.ensures.0 c.leaf_of.ensures c.store_leaf.ensures (search rules)
+    leaf-two _ _ _ _ c.requires.3 c.lowest-right.ensures.0 c.leaf_of.ensures c.store_leaf.ensures (search rules)
     c.leaf_of-2.ensures c.store_leaf-2.ensures

@@ -15,16 +15,15 @@ slice_reshared_read-seek c = search lents
 
 pub seek-met-requires : goal.seek-met-requires
 seek-met-requires c =
-    let s = c.before.before.before.before.before.before.before.before.before in
-    lent-seek _ _ _ s.requires.0 s.requires.1
+    lent-seek _ _ _ c.requires.0 c.requires.1
 
 pub returns-in-Stored : goal.returns-in-Stored
 returns-in-Stored c =
-    lent-stored _ _ _ _ _ c.if1.false _ c.seek-met.ensures.value c.enum_told-1.given.1
+    lent-stored _ _ _ _ _ c.if-nodes.false _ c.seek-met.ensures.value c.in-Stored.is
 
 pub returns-then-not-has_cell : goal.returns-then-not-has_cell
 returns-then-not-has_cell c =
-    lent-no-cell _ _ _ _ _ c.if1.false _ c.seek.ensures.0 c.match.keys2
+    lent-no-cell _ _ _ _ _ c.if-nodes.false _ c.seek-met.ensures.value c.in_default.in_default-own.keys2
     c.has_cell.ensures (not-true _ c.if-not-has_cell.true-raw)
 
 pub lacking-lacking-requires : goal.lacking-lacking-requires
@@ -32,15 +31,15 @@ lacking-lacking-requires c = search lents
 
 pub returns-then-lacking-gt0 : goal.returns-then-lacking-gt0
 returns-then-lacking-gt0 c =
-    lent-few-nodes _ _ _ _ _ k.before.before.before.before.if1.false _ c.seek.ensures.0 c.match.keys2
-    c.has-cell.ensures (not-false _ c.if2.false) c.lacking-lacking.ensures c.if-lacking-gt0.true
+    lent-few-nodes _ _ _ _ _ c.if-nodes.false _ c.seek-met.ensures.value c.in_default.in_default-own.keys2
+    c.has_cell.ensures (not-false _ c.if-not-has_cell.false-raw) c.lacking-lacking.ensures c.if-lacking-gt0.true
 
 pub put_counted-resting-requires : goal.put_counted-resting-requires
 put_counted-resting-requires c = (search lents, search rules, search rules)
 
 pub returns : goal.returns
 returns c =
-    lent-new _ _ _ _ _ k.before.before.before.before.if1.false _ c.seek.ensures.0 c.match.keys2
-    c.has-cell.ensures (not-false _ c.if2.false) c.lacking-lacking.ensures c.if-lacking-gt0.false
+    lent-new _ _ _ _ _ c.if-nodes.false _ c.seek-met.ensures.value c.in_default.in_default-own.keys2
+    c.has_cell.ensures (not-false _ c.if-not-has_cell.false-raw) c.lacking-lacking.ensures c.if-lacking-gt0.false
     c.put_counted-resting.ensures.0
     c.put_counted-resting.ensures.1

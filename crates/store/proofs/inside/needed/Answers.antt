@@ -9,7 +9,7 @@ overflow_add-links c =
     omega (
       arith,
       (conflict-within _ _ c.requires.place-within
-          c.met-1.given.1).2,
+          c.in-Conflict.is).2,
     )
 
 pub layers-requires : goal.layers-requires
@@ -17,7 +17,7 @@ layers-requires c =
     omega (
       arith,
       (conflict-within _ _ c.requires.place-within
-          c.met-1.given.1).2,
+          c.in-Conflict.is).2,
     )
 
 pub overflow_mul-links : goal.overflow_mul-links
@@ -25,7 +25,7 @@ overflow_mul-links c =
     omega (
       arith,
       missing-within _ _ c.requires.place-within
-          c.met-in-Missing-1.given.1,
+          c.in-Missing.is,
     )
 
 pub returns-in-Conflict : goal.returns-in-Conflict
