@@ -10,11 +10,11 @@ pub returns-then-node-p : goal.returns-then-node-p
 returns-then-node-p c = search calls
 
 pub offset_bounds-node-p : goal.offset_bounds-node-p
-offset_bounds-node-p c = let h = fine-n c.args.t1 c.is_good.ensures c.if-not-is_good.false-raw in
+offset_bounds-node-p c = let h = fine-n c.args.node c.is_good.ensures c.if-not-is_good.false-raw in
     search rules
 
 pub bounds-node-p : goal.bounds-node-p
-bounds-node-p c = let h = fine-n c.args.t1 c.is_good.ensures
+bounds-node-p c = let h = fine-n c.args.node c.is_good.ensures
     c.if-not-is_good.false-raw in search rules
 
 pub returns : goal.returns

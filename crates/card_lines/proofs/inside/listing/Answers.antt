@@ -7,4 +7,4 @@ use Rattle.card_lines.proofs.inside.listing.Goals as goal
 
 pub list-requires : goal.list-requires
 list-requires c = let s = c.args in
-    roomy (memory s.nodes.now s.cells.now s.bytes.now) (λ i. omega (arith, c.shared_slice_known-2-1.given i)) (search rules)
+    roomy (memory c.args.nodes.now c.args.cells.now c.args.bytes.now) (λ i. omega (arith, c.shared_slice_known-2-1.given i)) (search rules)

@@ -8,7 +8,7 @@ use Rattle.internode_inserts.proofs.inside.part.Goals as goal
 pub returns : goal.returns
 returns c =
     let a = c.args in
-    let k : length a.t1.ikeys ≡ 15 = search rules in
-    let h : length a.t1.children ≡ 16 = search rules in
+    let k : length a.node.ikeys ≡ 15 = search rules in
+    let h : length a.node.children ≡ 16 = search rules in
     let e = c.shift_from.ensures in
-    (rw e, rw e (part-copied a.t1 a.from a.count k h (search rules)))
+    (rw e, rw e (part-copied a.node a.from a.count k h (search rules)))

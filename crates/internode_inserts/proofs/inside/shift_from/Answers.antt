@@ -13,22 +13,22 @@ loop-i-init c =
     let a = c.args in (
       omega arith,
       refl,
-      paste-zero a.t1.ikeys a.p (drop a.at a.t3.ikeys),
-      paste-zero a.t1.children (a.p + 1) (drop (a.at + 1) a.t3.children),
+      paste-zero a.node.ikeys a.p (drop a.at a.src.ikeys),
+      paste-zero a.node.children (a.p + 1) (drop (a.at + 1) a.src.children),
     )
 
 pub loop-i-preserved : goal.loop-i-preserved
 loop-i-preserved c =
     let v = c.loop-i.invariant in
     let a = c.args in
-    let k : length a.t1.ikeys ≡ 15 = search rules in
-    let h : length a.t1.children ≡ 16 = search rules in
-    let sk : length a.t3.ikeys ≡ 15 = search rules in
-    let sh : length a.t3.children ≡ 16 = search rules in (
+    let k : length a.node.ikeys ≡ 15 = search rules in
+    let h : length a.node.children ≡ 16 = search rules in
+    let sk : length a.src.ikeys ≡ 15 = search rules in
+    let sh : length a.src.children ≡ 16 = search rules in (
       omega arith,
       v.1,
-      rw v.2 (paste_more a.t1.ikeys a.p a.t3.ikeys a.at c.loop-i.i (omega arith) (omega arith)),
-      rw v.3 (paste_more a.t1.children (a.p + 1) a.t3.children (a.at + 1) c.loop-i.i (omega arith) (omega arith)),
+      rw v.2 (paste_more a.node.ikeys a.p a.src.ikeys a.at c.loop-i.i (omega arith) (omega arith)),
+      rw v.3 (paste_more a.node.children (a.p + 1) a.src.children (a.at + 1) c.loop-i.i (omega arith) (omega arith)),
     )
 
 pub returns : goal.returns

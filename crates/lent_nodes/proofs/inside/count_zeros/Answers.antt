@@ -5,26 +5,22 @@ use borrow.Author.Rules.{rules}
 use lib.ListN.{length}
 use Rattle.lent_nodes.specs.Free.{every}
 use Rattle.lent_nodes.proofs.Frees.{count-one, count_none, in_words, all-counted, counted_none}
-use Rattle.lent_nodes.proofs.inside.count_zeros.Reads as reads
 use Rattle.lent_nodes.proofs.inside.count_zeros.Goals as goal
-
--- the word that is looked at
-looked : (c : lts.In-loop reads.Pre reads.Post invariant-loop decreases-loop)
-    → every c.before.before.args.start c.before.before.args.step c.before.loop.i < length
-    c.before.before.args.words.now
-looked c = search in_words
 
 pub loop-i-init : goal.loop-i-init
 loop-i-init c = (omega arith, omega arith, counted_none _ _)
 
 pub overflow_mul-i : goal.overflow_mul-i
-overflow_mul-i c = let h = looked c in omega arith
+overflow_mul-i c =
+    let h : every c.args.start c.args.step c.loop-i.i < length c.args.words.now = search in_words in omega arith
 
 pub overflow_add-start : goal.overflow_add-start
-overflow_add-start c = let h = looked c in omega arith
+overflow_add-start c =
+    let h : every c.args.start c.args.step c.loop-i.i < length c.args.words.now = search in_words in omega arith
 
 pub offset_bounds-words-start : goal.offset_bounds-words-start
-offset_bounds-words-start c = let h = looked c in omega arith
+offset_bounds-words-start c =
+    let h : every c.args.start c.args.step c.loop-i.i < length c.args.words.now = search in_words in omega arith
 
 pub bounds-words-start : goal.bounds-words-start
 bounds-words-start c = search (rules, in_words)

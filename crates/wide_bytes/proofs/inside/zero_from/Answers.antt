@@ -13,17 +13,17 @@ loop-k-init c = (omega arith, refl)
 pub returns-then-bank-k-ne0 : goal.returns-then-bank-k-ne0
 returns-then-bank-k-ne0 c =
     let a = c.args in
-    let n : length a.t1 ≡ 25 = search rules in
-    not-zero c.loop-k.k a.t1 (omega arith) refl c.if-bank-k-ne0.true ∙ sym c.loop-k.invariant.1
+    let n : length a.bank ≡ 25 = search rules in
+    not-zero c.loop-k.k a.bank (omega arith) refl c.if-bank-k-ne0.true ∙ sym c.loop-k.invariant.1
 
 pub loop-k-preserved : goal.loop-k-preserved
 loop-k-preserved c =
     let a = c.args in
-    let n : length a.t1 ≡ 25 = search rules in
-    (omega arith, c.loop-k.invariant.1 ∙ zero-next c.loop-k.k a.t1 (omega arith) refl c.if-bank-k-ne0.false)
+    let n : length a.bank ≡ 25 = search rules in
+    (omega arith, c.loop-k.invariant.1 ∙ zero-next c.loop-k.k a.bank (omega arith) refl c.if-bank-k-ne0.false)
 
 pub returns : goal.returns
 returns c =
     let a = c.args in
-    let n : length a.t1 ≡ 25 = search rules in
-    zeros-done c.loop-k.k a.t1 (omega arith) ∙ sym c.loop-k.invariant.1
+    let n : length a.bank ≡ 25 = search rules in
+    zeros-done c.loop-k.k a.bank (omega arith) ∙ sym c.loop-k.invariant.1

@@ -9,14 +9,14 @@ use Rattle.wide_moves.proofs.Moves.{paste_more}
 use Rattle.wide_moves.proofs.inside.copy.Goals as goal
 
 pub loop-i-init : goal.loop-i-init
-loop-i-init c = (omega arith, paste-zero c.args.to c.args.p (drop c.args.at c.args.t3))
+loop-i-init c = (omega arith, paste-zero c.args.to c.args.p (drop c.args.at c.args.from))
 
 pub loop-i-preserved : goal.loop-i-preserved
 loop-i-preserved c =
     let a = c.args in
     let n : length a.to ≡ 25 = search rules in
-    let m : length a.t3 ≡ 25 = search rules in
-    (omega arith, rw c.loop-i.invariant.1 (paste_more a.to a.p a.t3 a.at c.loop-i.i (omega arith) (omega arith)))
+    let m : length a.from ≡ 25 = search rules in
+    (omega arith, rw c.loop-i.invariant.1 (paste_more a.to a.p a.from a.at c.loop-i.i (omega arith) (omega arith)))
 
 pub returns : goal.returns
 returns c =

@@ -20,8 +20,8 @@ bounds-bank-i c = omega arith
 
 pub returns-then-bank-i : goal.returns-then-bank-i
 returns-then-bank-i c =
-    let n : length c.args.t1 ≡ 25 = search rules in
-    place_here c.args.width c.args.slot c.args.t1 n c.requires.0 c.requires.1 c.loop-i.i (omega arith)
+    let n : length c.args.bank ≡ 25 = search rules in
+    place_here c.args.width c.args.slot c.args.bank n c.requires.0 c.requires.1 c.loop-i.i (omega arith)
     c.loop-i.invariant.1 c.if-bank-i.true
 
 pub overflow_add-i-in-loop-i : goal.overflow_add-i-in-loop-i
@@ -35,8 +35,8 @@ loop-i-preserved c = (omega arith, below_more _ _ c.loop-i.invariant.1 c.if-bank
 
 pub returns : goal.returns
 returns c =
-    let e : get_or c.args.t1 0 0 ≡ c.loop-i.i = omega arith in
-    let n : length c.args.t1 ≡ 25 = search rules in
+    let e : get_or c.args.bank 0 0 ≡ c.loop-i.i = omega arith in
+    let n : length c.args.bank ≡ 25 = search rules in
     sym e
-    ∙ place-nowhere c.args.width c.args.slot c.args.t1 n c.requires.0 c.requires.1
+    ∙ place-nowhere c.args.width c.args.slot c.args.bank n c.requires.0 c.requires.1
     (λ k l. c.loop-i.invariant.1 k (omega arith))
