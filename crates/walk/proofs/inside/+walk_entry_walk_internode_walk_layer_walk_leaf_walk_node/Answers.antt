@@ -83,7 +83,7 @@ walk_leaf-slot_at-slot-requires t c = search leafwise
 pub walk_leaf-returns-then-not-is_within : goal.walk_leaf-returns-then-not-is_within
 walk_leaf-returns-then-not-is_within t c = (
   leaf-out _ _ _ _ _ _ _ c.loop-i.invariant.2
-      c.type_size.ensures c.loop-i-test.true
+      c.size_of-size.ensures c.loop-i-test.true
       c.slot_at-slot.ensures.0
       c.entry_at-e.ensures c.is_within.ensures (not-true _ c.if-not-is_within.true-raw),
   c.loop-i.invariant.4,
@@ -92,7 +92,7 @@ walk_leaf-returns-then-not-is_within t c = (
 pub walk_leaf-returns-then-not-walk_entry : goal.walk_leaf-returns-then-not-walk_entry
 walk_leaf-returns-then-not-walk_entry t c = (
   leaf-fails _ _ _ _ _ _ _ c.loop-i.invariant.2
-      c.type_size.ensures c.loop-i-test.true
+      c.size_of-size.ensures c.loop-i-test.true
       c.slot_at-slot.ensures.0
       c.entry_at-e.ensures c.is_within.ensures (not-false _ c.if-not-is_within.false-raw) _
       c.walk_entry.ensures.seen_after (not-true _ c.if-not-walk_entry.true-raw),
@@ -105,7 +105,7 @@ walk_leaf-loop-i-preserved t c = (
   search rules,
   entries-on _ _ _ _ c.walk_entry.ensures.above_unchanged _ _ _ _
       (leaf-next _ _ _ _ _ _ _ c.loop-i.invariant.2
-      c.type_size.ensures c.loop-i-test.true
+      c.size_of-size.ensures c.loop-i-test.true
       c.slot_at-slot.ensures.0
       c.entry_at-e.ensures c.is_within.ensures (not-false _ c.if-not-is_within.false-raw) _
       c.walk_entry.ensures.seen_after (not-false _ c.if-not-walk_entry.false-raw)),
