@@ -4,3 +4,4 @@ pub mod After
 pub mod Room
 pub mod Index
 pub mod Count
+pub mod Tallied

@@ -17,8 +17,8 @@ use Rattle.page.proofs.Pages.{typed_then}
 use Rattle.lines_said.specs.Said.{listed, unless_refused}
 use Rattle.lines_list.proofs.Rooms.{digits-room, refused-room}
 use Rattle.card_said.specs.Load.{load_done}
-use Rattle.card_load.specs.declared.Loaded.{Loaded}
-use Rattle.card_load.specs.Load.{said_loaded}
+use Rattle.card_image.specs.Loaded.{Loaded}
+use Rattle.card_image.specs.Loaded.{said_loaded}
 use Rattle.card_lines.specs.Printed.{image_listed, blocks_word, blocks_line, Front, Shown}
 
 -- ---- bytes at the front of lent ones

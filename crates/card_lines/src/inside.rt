@@ -3,7 +3,7 @@ ghost use Rattle.std.specs.Prelude.{◌≡◌, ◌≤◌, length};
 ghost use Rattle.arena.specs.Memory.{memory};
 ghost use Rattle.page.specs.Page.{Typed};
 ghost use Rattle.lines_said.specs.Said.{listed};
-ghost use Rattle.card_load.specs.Load.{said_loaded};
+ghost use Rattle.card_image.specs.Loaded.{said_loaded};
 ghost use Rattle.card_lines.specs.Printed.{image_listed, blocks_line, Shown, Imaged};
 
 use card_image::{Loaded, Saved};

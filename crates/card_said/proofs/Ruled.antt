@@ -16,7 +16,7 @@ use Rattle.arena.specs.Memory.{Memory, Did, did, right_lengths}
 use Rattle.model.specs.Calls.{put_done}
 use Rattle.forest.specs.IsTree.{Layers, IsTree, listing}
 use Rattle.forest.proofs.One.{tree-one}
-use Rattle.as_map.specs.Calls.{clear, left, answers, left_after}
+use Rattle.map_loads.specs.Heard.{clear, left, answers, left_after}
 use Rattle.map_loads.specs.Loads.{puts_after, Fileable, empty_of, settled, loaded, as_calls, NoRoom, done_each, FailsFirst, heard_as}
 use Rattle.map_loads.proofs.Rises.{Outcome, puts-rise}
 use Rattle.map_loads.proofs.Loaded.{Loads, Refuses, load-outcome, empty-lists}

@@ -10,7 +10,7 @@ use lib.ListN.{length, get_or, length-map, get_or-eq_default}
 use lib.Seq.{length-take-le, get_or-take}
 use Rattle.bank.specs.Bank.{slot_at}
 use Rattle.nibbles.proofs.Nibbles.{length-nibbles}
-use Rattle.leaf_entries.specs.declared.Entry.{Entry}
+use Rattle.leaf.specs.Entries.{Entry}
 use Rattle.leaf.specs.Leaf.{none, slots_in_use, slots_of}
 use Rattle.leaf.proofs.Lists.{get_d_map}
 use Rattle.arena.specs.Layout.{word_at}

@@ -5,3 +5,4 @@ pub mod Trees
 pub mod Layers
 pub mod IsTree
 pub mod Walk
+pub mod OneLeaf

@@ -4,7 +4,7 @@ use Rattle.memory_layout.specs.Numbers.{ikeys_from, classes_from, refs_from, chi
 use Rattle.bank.specs.Bank.{Bank}
 use Rattle.nibbles.specs.Words.{valid_word}
 use Rattle.internode.specs.Lists as internode
-use Rattle.leaf_entries.specs.declared.Entry.{Entry}
+use Rattle.leaf.specs.Entries.{Entry}
 use Rattle.leaf.specs.Lists.{every}
 use Rattle.leaf.specs.Leaf.{slots_in_use, slots_of, rising}
 use Rattle.arena.specs.Parts.{part}

@@ -2,7 +2,7 @@
 use Rattle.std.specs.Prelude.{ℕ, zero, suc, ◌+◌, ◌*◌, ◌^◌, ◌≤◌, ◌<◌, ◌≡◌, cond, List, [], ◌∷◌, map, T, eqb, drop}
 use Rattle.order.specs.Map.{All}
 use Rattle.order.specs.Lists.{total, flattened}
-use Rattle.leaf_entries.specs.declared.Entry.{Entry}
+use Rattle.leaf.specs.Entries.{Entry}
 use Rattle.forest.specs.Nodes.{entries_at, ikeys_at, children_at, leaf_right, internode_right}
 
 -- an ikey and a class: a length of 0 to 8, or 9 for longer

@@ -1,5 +1,4 @@
 pub mod Fitting
 pub mod Layers
 pub mod One
-pub mod Parts
 pub mod Telling

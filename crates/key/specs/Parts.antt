@@ -19,7 +19,7 @@ data_said bytes ikey shifts suffix = answered ((7 unless fits bytes ikey shifts 
 
 -- where a part lies: in the caller's own bytes, so many bytes on
 abbrev pub LiesFrom : Bor (List ℕ) → ℕ → Bor (List ℕ) → Type 0
-LiesFrom s start r = (r.ptr.0 ≡ s.ptr.0) × (r.ptr.1 ≡ start + s.ptr.1)
+LiesFrom s start r = (r.ref_ptr.0 ≡ s.ref_ptr.0) × (r.ref_ptr.1 ≡ start + s.ref_ptr.1)
 
 -- the suffix of a key, its bytes and their place: that of a key that does not fit lies at the caller's own end
 abbrev pub IsSuffix : Bor (List ℕ) → ℕ → ℕ → ℕ → Part → Type 0

@@ -15,9 +15,9 @@ use Rattle.bank.specs.Holder.{changed_in, made_sorted_in}
 use Rattle.bank.proofs.Moves.{length-turned, once-turned}
 use Rattle.bank.proofs.Sorted.{sorted-size, sorted-width, sorted-once}
 use Rattle.nibbles.specs.Words.{word_of, valid_word}
-use Rattle.permuter.specs.Words.{changed, made_sorted}
+use Rattle.leaf_entries.specs.Sorting.{changed, made_sorted}
 use Rattle.nibbles.proofs.Nibbles.{length-nibbles}
-use Rattle.permuter.proofs.History.{Fit, size-packed, slots-packed, valid-packed, fit-inserted}
+use Rattle.leaf_entries.proofs.Sorting.{Fit, size-packed, slots-packed, valid-packed, fit-inserted}
 use Rattle.leaf_entries.specs.declared.Entry.{Entry}
 use Rattle.leaf.specs.Leaf.{none, viewed, slots_of, entries_in_order, laid, rising}
 use Rattle.leaf.specs.Cut.{cut_of}

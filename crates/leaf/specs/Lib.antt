@@ -3,3 +3,4 @@ pub mod Leaf
 pub mod Search
 pub mod Cut
 pub mod Examples
+pub mod Entries

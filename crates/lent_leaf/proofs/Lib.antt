@@ -1,4 +1,3 @@
 pub mod Counted
 pub mod Table
-pub mod Guard
 pub mod One

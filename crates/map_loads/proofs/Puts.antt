@@ -10,7 +10,7 @@ use Rattle.order.specs.Map.{Map, All, a[], ◌a∷◌}
 use Rattle.arena.specs.Memory.{Memory, Did}
 use Rattle.forest.specs.Walk.{is_tree}
 use Rattle.model.specs.Calls.{put_done, put_lent}
-use Rattle.index_counted.proofs.Lent.{lent-is-put}
+use Rattle.as_map.proofs.Tallied.{lent-is-put}
 use Rattle.as_map.specs.Calls.{put}
 use Rattle.as_map.proofs.Says.{accepted}
 use Rattle.as_map.proofs.Leaves.{Lists, leaves}

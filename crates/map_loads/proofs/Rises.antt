@@ -18,7 +18,7 @@ use Rattle.order.proofs.Map.{alter-left, all_split, sorted-split}
 use Rattle.order.proofs.Lookup.{lookup-left}
 use Rattle.arena.specs.Memory.{Memory, Did, did}
 use Rattle.model.specs.Calls.{stored, with_entry, has_cell, has_nodes, has_room, lacking, rests_in, put_done}
-use Rattle.index_counted.proofs.Kept.{put-counted}
+use Rattle.as_map.proofs.Tallied.{put-counted}
 use Rattle.places.proofs.Found.{is_some, stored-lookup}
 use Rattle.as_map.proofs.Says.{accepted}
 use Rattle.as_map.specs.Calls.{put, Heard, done, heard_of, heard, answers, left_after}

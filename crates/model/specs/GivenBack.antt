@@ -3,7 +3,7 @@
 use Rattle.std.specs.Prelude.{ℕ, zero, suc, ◌-◌, ◌*◌, ◌/◌, ◌%◌, Bool, false, cond, ◌&&◌, List, ltb, eqb}
 use Rattle.memory_layout.specs.Numbers.{header_words, node_words}
 use Rattle.order.specs.Layer.{ikey_at, class_at}
-use Rattle.leaf.specs.Search.{place_equal}
+use Rattle.forest.specs.OneLeaf.{place_equal}
 use Rattle.arena.specs.Layout.{word_at, root_of, freed_node}
 use Rattle.arena.specs.Memory.{Memory, memory}
 use Rattle.forest.specs.Nodes.{entries_at}

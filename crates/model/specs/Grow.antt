@@ -2,8 +2,8 @@
 use Rattle.std.specs.Prelude.{ℕ, zero, suc, ◌+◌, ◌*◌, cond, List, [], ◌∷◌, ltb, length, set}
 use Rattle.memory_layout.specs.Numbers.{refs_from}
 use Rattle.order.specs.Layer.{ikey_at, class_at}
-use Rattle.leaf_entries.specs.declared.Entry.{Entry}
-use Rattle.leaf.specs.Leaf.{less}
+use Rattle.forest.specs.OneLeaf.{Entry}
+use Rattle.forest.specs.OneLeaf.{less}
 use Rattle.arena.specs.Layout.{node_start, put_leaf}
 use Rattle.forest.specs.Walk.{height_at}
 use Rattle.model.specs.Down.{child_for}

@@ -4,11 +4,11 @@ use Rattle.memory_layout.specs.Numbers.{ikeys_from, classes_from, refs_from}
 use Rattle.bank.specs.Bank.{slot_at, inserted_from_back}
 use Rattle.bank.specs.Calls.{remove}
 use Rattle.nibbles.specs.Words.{word_of}
-use Rattle.permuter.specs.Words.{changed, made_sorted}
-use Rattle.leaf_entries.specs.declared.Entry.{Entry}
-use Rattle.leaf.specs.Leaf.{none, rank}
-use Rattle.leaf.specs.Search.{place_greater}
-use Rattle.leaf.specs.Cut.{ikey_of, cut_of}
+use Rattle.forest.specs.OneLeaf.{changed, made_sorted}
+use Rattle.forest.specs.OneLeaf.{Entry}
+use Rattle.forest.specs.OneLeaf.{none, rank}
+use Rattle.forest.specs.OneLeaf.{place_greater}
+use Rattle.forest.specs.OneLeaf.{ikey_of, cut_of}
 use Rattle.lent_nodes.specs.declared.inside.Leaf.{Leaf}
 use Rattle.arena.specs.Parts.{zeros}
 use Rattle.arena.specs.Layout.{node_start, word_at, put_leaf}

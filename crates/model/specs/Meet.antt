@@ -3,9 +3,9 @@ use Rattle.std.specs.Prelude.{ℕ, zero, suc, ◌+◌, ◌*◌, Bool, cond, ◌&
 use Rattle.memory_layout.specs.Numbers.{refs_from}
 use Rattle.bank.specs.Bank.{slot_at}
 use Rattle.order.specs.Layer.{ikey_at, class_at}
-use Rattle.leaf_entries.specs.declared.Entry.{Entry}
-use Rattle.leaf.specs.Leaf.{none}
-use Rattle.leaf.specs.Search.{same_bytes, place_equal}
+use Rattle.forest.specs.OneLeaf.{Entry}
+use Rattle.forest.specs.OneLeaf.{none}
+use Rattle.forest.specs.OneLeaf.{same_bytes, place_equal}
 use Rattle.arena.specs.Parts.{part}
 use Rattle.arena.specs.Layout.{node_start, key_start, mark_at}
 use Rattle.arena.specs.Memory.{Memory}

@@ -5,15 +5,19 @@
 mod lent;
 mod line;
 
+use std::io;
+
 // Replays every line. No list is so long that the count of answers ends it.
-fn main() {
+fn main(rt: HostRuntime) -> io::Result<()> {
+    let mut from = rt.stdin();
+    let mut to = rt.stdout();
     let mut tally = tally::none();
     while tally.answers < u64::MAX {
         let mut text = [0u8; 1470];
-        if !tally::next(&mut text) {
+        if !tally::next(&mut from, &mut to, &mut text)? {
             break;
         }
-        tally = tally::counted(tally, line::agrees(&text), &text);
+        tally = tally::counted(&mut to, tally, line::agrees(&text), &text)?;
     }
-    tally::tell(tally, b"answers");
+    tally::tell(&mut to, tally, b"answers")
 }

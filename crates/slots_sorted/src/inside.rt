@@ -14,6 +14,7 @@ pub fn sorted(width: usize, n: usize) -> u64
 
 // Entry k of the table: widths 1 to 15 by sizes 0 to 15, and 0 where the size exceeds the width. A `match` becomes one load from read-only
 // data; a constant array would be laid on the stack at each call.
+#[tactic(auto, unfolding(crate::specs::Table::table))]
 fn word_at(k: usize) -> u64
     ensures { result ≡ get_or table k 0 }
 {

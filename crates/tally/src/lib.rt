@@ -1,7 +1,13 @@
 // What the programs that replay recorded answers share: how many answers there were, how many differ, and what is printed of it.
+// A read or a write that fails is handed on as it came.
 #![tactic(auto)]
 
-ghost use Rattle.std.specs.Prelude.{◌≡◌, cond, ◌+◌, min};
+ghost use Rattle.std.specs.Prelude.{true, false, ◌≡◌, ◌+◌, ◌<◌, ◌≤◌, cond, length, min, take, IfOk, IfSome, OnOk};
+ghost use Rattle.std.specs.Io.KnownBytes.{Appends, Consumes, IsAtEnd, Keeps};
+ghost use Rattle.tally.specs.Printed.{ending, if_differing, told};
+
+use std::io;
+use std::io::{Read, Write};
 
 // How many answers were replayed, and how many differed.
 #[derive(Clone, Copy)]
@@ -10,16 +16,40 @@ pub struct Tally {
     pub mismatches: u64,
 }
 
+// Reads until the text is full or the input ends, and says how many bytes were read.
+fn filled<R: Read>(from: &mut R, text: &mut [u8]) -> io::Result<usize>
+    ensures bound { IfOk result (λ n. n ≤ length text.new) }
+    ensures bytes { IfOk result (λ n. Consumes (R.remaining from.old) (R.remaining from.new) (take n text.new)) }
+    ensures end { IfOk result (λ n. n < length text.new → IsAtEnd (R.remaining from.new)) }
+{
+    let mut done: usize = 0;
+    while done < text.len() {
+        let n = from.read(&mut text[done..])?;
+        if n == 0 {
+            return Ok(done);
+        }
+        done += n;
+    }
+    Ok(done)
+}
+
 // Reads the next line, of a fixed length, and says whether there was one. An input that ends within a line is told.
-pub fn next(text: &mut [u8]) -> bool {
-    let n = io::read_full(0, text);
+pub fn next<R: Read, W: Write>(from: &mut R, to: &mut W, text: &mut [u8]) -> io::Result<bool>
+    ensures line { IfOk result (λ there. there ≡ true → Consumes (R.remaining from.old) (R.remaining from.new) text.new) }
+    ensures silent { IfOk result (λ there. there ≡ true → Keeps (W.contents to.old) (W.contents to.new)) }
+    ensures end { IfOk result (λ there. there ≡ false → IsAtEnd (R.remaining from.new)) }
+    ensures short { IfOk result (λ there. there ≡ false → IfSome (R.remaining from.old) (λ left. length left < length text.new)) }
+    ensures told { IfOk result (λ there. there ≡ false →
+        IfSome (R.remaining from.old) (λ left. Appends (W.contents to.old) (W.contents to.new) (ending left))) }
+{
+    let n = filled(from, text)?;
     if n == text.len() {
-        return true;
+        return Ok(true);
     }
     if n != 0 {
-        io::write_all(1, b"a line is cut short\n");
+        writeln!(to, "a line is cut short")?;
     }
-    false
+    Ok(false)
 }
 
 // Nothing replayed yet.
@@ -40,32 +70,32 @@ fn one_more(n: u64) -> u64
 }
 
 // One answer more. Of one that differs its number and its text are printed.
-pub fn counted(tally: Tally, agrees: bool, text: &[u8]) -> Tally
-    ensures answers_value { result.answers ≡ min (tally.answers + 1) 18446744073709551615 }
-    ensures mismatches_value { result.mismatches ≡ cond agrees tally.mismatches (min (tally.mismatches + 1) 18446744073709551615) }
+pub fn counted<W: Write>(to: &mut W, tally: Tally, agrees: bool, text: &[u8]) -> io::Result<Tally>
+    ensures answers_value { IfOk result (λ r. r.answers ≡ min (tally.answers + 1) 18446744073709551615) }
+    ensures mismatches_value { IfOk result (λ r.
+        r.mismatches ≡ cond agrees tally.mismatches (min (tally.mismatches + 1) 18446744073709551615)) }
+    ensures printed { OnOk result (Appends (W.contents to.old) (W.contents to.new) (if_differing agrees tally.answers text.now)) }
 {
     let answers = one_more(tally.answers);
     if agrees {
-        return Tally {
+        return Ok(Tally {
             answers,
             mismatches: tally.mismatches,
-        };
+        });
     }
-    io::print_decimal(1, tally.answers);
-    io::write_all(1, b" differs: ");
-    io::write_all(1, text);
-    Tally {
+    write!(to, "{} differs: ", tally.answers)?;
+    to.write_all(text)?;
+    Ok(Tally {
         answers,
         mismatches: one_more(tally.mismatches),
-    }
+    })
 }
 
 // `N answers, M mismatches`, with the word for what was replayed.
-pub fn tell(tally: Tally, what: &[u8]) {
-    io::print_decimal(1, tally.answers);
-    io::write_all(1, b" ");
-    io::write_all(1, what);
-    io::write_all(1, b", ");
-    io::print_decimal(1, tally.mismatches);
-    io::write_all(1, b" mismatches\n");
+pub fn tell<W: Write>(to: &mut W, tally: Tally, what: &[u8]) -> io::Result<()>
+    ensures { OnOk result (Appends (W.contents to.old) (W.contents to.new) (told tally.answers tally.mismatches what.now)) }
+{
+    write!(to, "{} ", tally.answers)?;
+    to.write_all(what)?;
+    writeln!(to, ", {} mismatches", tally.mismatches)
 }

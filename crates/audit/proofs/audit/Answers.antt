@@ -1,0 +1,9 @@
+-- `audit::audit` meets its contract. Assumes nothing.
+use Rattle.audit.proofs.Judging.{says}
+use Rattle.audit.proofs.audit.Goals as goal
+
+pub returns-then-is_tree : goal.returns-then-is_tree
+returns-then-is_tree c = search says
+
+pub returns : goal.returns
+returns c = search says

@@ -1,0 +1,21 @@
+-- `card_filing::inside::enter_bytes` meets its contract: what the rest of the bytes makes of the present state is what all make of the
+-- first.
+-- Assumes nothing.
+use Prim.Native.Nat.{◌-◌}
+use mathlib.Core.Path.{refl}
+use borrow.Author.Rules.{rules}
+use Rattle.card_stream.proofs.Folds.{further, at_last}
+use Rattle.card_filing.proofs.Enters.{right_kept, one-fits}
+use Rattle.card_filing.proofs.inside.enter_bytes.Goals as goal
+
+pub loop-i-init : goal.loop-i-init
+loop-i-init c = (search rules, search rules, search rules, search rules, search rules, search rules, refl)
+
+pub enter-t-requires : goal.enter-t-requires
+enter-t-requires c = (search (rules, right_kept), search rules, search rules, search rules)
+
+pub loop-i-preserved : goal.loop-i-preserved
+loop-i-preserved c = (search rules, search rules, search rules, search rules, search rules, search one-fits, search further)
+
+pub returns : goal.returns
+returns c = search at_last

@@ -1,8 +1,0 @@
--- `firmware::keys::cherchivola_key_unshift` meets its contract: it crosses as the call's answer does. Assumes nothing.
-use borrow.Author.Rules.{rules}
-use Rattle.crossing.proofs.Crosses.{crosses-as}
-use Rattle.firmware.proofs.keys.cherchivola_key_unshift.Statement.{statement}
-use Rattle.firmware.proofs.keys.cherchivola_key_unshift.Tie as tie
-
-pub cherchivola-key-unshift-spec : {M : Type 1} → statement M
-cherchivola-key-unshift-spec = tie.close (tie.spec (λ c κs. search rules) (λ c κs. search rules) (λ c. search crosses-as))

@@ -1,0 +1,6 @@
+-- `firmware::keys::cherchivola_key_unshift_all` meets its contract: it crosses as the call's answer does. Assumes nothing.
+use Rattle.crossing.proofs.Crosses.{crosses-as}
+use Rattle.firmware.proofs.keys.cherchivola_key_unshift_all.Goals as goal
+
+pub returns : goal.returns
+returns c = search crosses-as

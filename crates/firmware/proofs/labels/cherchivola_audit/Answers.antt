@@ -1,0 +1,6 @@
+-- `firmware::labels::cherchivola_audit` meets its contract: it crosses as the call's answer does. Assumes nothing.
+use Rattle.crossing.proofs.Crosses.{crosses-as}
+use Rattle.firmware.proofs.labels.cherchivola_audit.Goals as goal
+
+pub returns : goal.returns
+returns c = search crosses-as

@@ -1,8 +1,0 @@
--- `firmware::labels::cherchivola_kth` meets its contract: it crosses as the call's answer does. Assumes nothing.
-use borrow.Author.Rules.{rules}
-use Rattle.crossing.proofs.Crosses.{crosses-as}
-use Rattle.firmware.proofs.labels.cherchivola_kth.Statement.{statement}
-use Rattle.firmware.proofs.labels.cherchivola_kth.Tie as tie
-
-pub cherchivola-kth-spec : {M : Type 1} → statement M
-cherchivola-kth-spec = tie.close (tie.spec (λ c κs. search rules) (λ c κs. search rules) (λ c. search crosses-as))

@@ -1,9 +1,0 @@
--- `firmware::slots::cherchivola_insert_first_free` meets its contract: it crosses as the rule's answer does. Assumes nothing.
-use borrow.Author.Rules.{rules}
-use Rattle.crossing.proofs.Crosses.{crosses-as}
-use Rattle.firmware.proofs.slots.cherchivola_insert_first_free.Statement.{statement}
-use Rattle.firmware.proofs.slots.cherchivola_insert_first_free.Tie as tie
-
-pub cherchivola-insert-first-free-spec : {M : Type 1} → statement M
-cherchivola-insert-first-free-spec =
-    tie.close (tie.spec (λ c κs. search rules) (λ c κs. search rules) (λ c. search crosses-as))

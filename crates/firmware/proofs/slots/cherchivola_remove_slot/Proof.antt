@@ -1,8 +1,0 @@
--- `firmware::slots::cherchivola_remove_slot` meets its contract: it crosses as the rule's answer does. Assumes nothing.
-use borrow.Author.Rules.{rules}
-use Rattle.crossing.proofs.Crosses.{crosses-as}
-use Rattle.firmware.proofs.slots.cherchivola_remove_slot.Statement.{statement}
-use Rattle.firmware.proofs.slots.cherchivola_remove_slot.Tie as tie
-
-pub cherchivola-remove-slot-spec : {M : Type 1} → statement M
-cherchivola-remove-slot-spec = tie.close (tie.spec (λ c κs. search rules) (λ c κs. search rules) (λ c. search crosses-as))

@@ -1,9 +1,0 @@
--- `firmware::wide::cherchivola_wide_remove` meets its contract: it crosses as the rule's answer does. Assumes nothing.
-use borrow.Author.Rules.{rules}
-use Rattle.crossing.proofs.Crosses.{crosses-as}
-use Rattle.firmware.proofs.wide.cherchivola_wide_remove.Statement.{statement}
-use Rattle.firmware.proofs.wide.cherchivola_wide_remove.Tie as tie
-
-pub cherchivola-wide-remove-spec : {M : Type 1} → statement M
-cherchivola-wide-remove-spec =
-    tie.close (tie.spec (λ c κs. search rules) (λ c κs. search rules) (λ c. search crosses-as))

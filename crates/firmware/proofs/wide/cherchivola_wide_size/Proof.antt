@@ -1,8 +1,0 @@
--- `firmware::wide::cherchivola_wide_size` meets its contract: it crosses as the rule's answer does. Assumes nothing.
-use borrow.Author.Rules.{rules}
-use Rattle.wide_crossing.proofs.Crosses.{asks-as}
-use Rattle.firmware.proofs.wide.cherchivola_wide_size.Statement.{statement}
-use Rattle.firmware.proofs.wide.cherchivola_wide_size.Tie as tie
-
-pub cherchivola-wide-size-spec : {M : Type 1} → statement M
-cherchivola-wide-size-spec = tie.close (tie.spec (λ c κs. search rules) (λ c κs. search rules) (λ c. search asks-as))

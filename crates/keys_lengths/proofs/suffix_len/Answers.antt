@@ -1,0 +1,6 @@
+-- `keys_lengths::suffix_len` meets its contract. Assumes nothing.
+use Rattle.key_layer.proofs.Calls.{count-then}
+use Rattle.keys_lengths.proofs.suffix_len.Goals as goal
+
+pub returns : goal.returns
+returns c = search count-then

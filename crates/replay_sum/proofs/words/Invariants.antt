@@ -1,0 +1,10 @@
+-- What the sum comes to from member i on is the answer.
+use Rattle.std.proofs.Common.{◌≡◌, ◌-◌, ◌≤◌, length, drop}
+use Rattle.replay_sum.specs.Sums.{summed}
+use Rattle.replay_sum.proofs.words.Given as goal
+
+abbrev pub invariant-loop-i : goal.invariant-loop-i
+invariant-loop-i l = (l.i ≤ length l.words) × (summed l.sum (drop l.i l.words) ≡ summed l.start l.words)
+
+abbrev pub decreases-loop-i : goal.decreases-loop-i
+decreases-loop-i l = length l.words - l.i

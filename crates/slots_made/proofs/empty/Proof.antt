@@ -1,8 +1,0 @@
--- `empty` meets its contract. Assumes nothing.
-use borrow.Author.Rules.{rules}
-use Rattle.slot_answers.proofs.Making.{made}
-use Rattle.slots_made.proofs.empty.Statement.{statement}
-use Rattle.slots_made.proofs.empty.Tie as tie
-
-pub empty-spec : {M : Type 1} → statement M
-empty-spec = tie.close (tie.spec (λ c. search made) (λ c. search made) (λ c κs. search rules) (λ c. search made))

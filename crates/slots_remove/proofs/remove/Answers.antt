@@ -1,0 +1,15 @@
+-- `remove` meets its contract. Assumes nothing.
+use Rattle.slot_answers.proofs.Calls.{asks, calls}
+use Rattle.slots_remove.proofs.remove.Goals as goal
+
+pub returns-in-No : goal.returns-in-No
+returns-in-No c = search calls
+
+pub returns-then-size-i : goal.returns-then-size-i
+returns-then-size-i c = search calls
+
+pub moved-requires : goal.moved-requires
+moved-requires c = search asks
+
+pub returns : goal.returns
+returns c = search calls

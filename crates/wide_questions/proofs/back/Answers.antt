@@ -1,0 +1,13 @@
+-- `back` meets its contract. Assumes nothing.
+use Rattle.wide_answers.proofs.Asks.{asks}
+use Rattle.wide_answers.proofs.Calls.{calls}
+use Rattle.wide_questions.proofs.back.Goals as goal
+
+pub returns-in-No : goal.returns-in-No
+returns-in-No c = search calls
+
+pub byte-requires : goal.byte-requires
+byte-requires c = search asks
+
+pub returns : goal.returns
+returns c = search calls
