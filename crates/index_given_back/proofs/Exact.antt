@@ -192,15 +192,18 @@ module _ (m : Memory) (v₀ : Layers) (t₀ : IsTree m v₀) (bytes : Bytes m.by
       → Entered m K (layer_root (suc l) v) (length ks) lf p (link (layer_root l x))
       → {o : Met} → Way m K l x (path_down K ks) (number_word m.nodes lf p) o → to_give_back m.nodes K o ≡ false
       → FullFront (trees_up K l x (path_down K ks))
-  full-below l v ks uk H G u lf p x q E (missing _ _ _ _ e) f = here-full l v ks uk H G u lf p x q E e f
-  full-below l v ks uk H G u lf p x q E (way.stored _ _ _ _ _ _ c e _ _ _) f = cell_full l v ks uk H G u lf p x q E c e
-  full-below l v ks uk H G u lf p x q E (conflict _ _ _ _ _ _ c e _ _ _) f = cell_full l v ks uk H G u lf p x q E c e
-  full-below l v ks uk H G u lf p x q E (below l' _ _ _ lf' p' y o q' E' rest) f =
-      let F = fit m K whole few at l v ks uk H G u x q in
+  full-below zero v ks uk H G u lf p x q E (missing _ _ _ _ e) f = here-full zero v ks uk H G u lf p x q E e f
+  full-below zero v ks uk H G u lf p x q E (way.stored _ _ _ _ _ _ c e _ _ _) f = cell_full zero v ks uk H G u lf p x q E c e
+  full-below zero v ks uk H G u lf p x q E (conflict _ _ _ _ _ _ c e _ _ _) f = cell_full zero v ks uk H G u lf p x q E c e
+  full-below (suc l) v ks uk H G u lf p x q E (missing _ _ _ _ e) f = here-full (suc l) v ks uk H G u lf p x q E e f
+  full-below (suc l) v ks uk H G u lf p x q E (way.stored _ _ _ _ _ _ c e _ _ _) f = cell_full (suc l) v ks uk H G u lf p x q E c e
+  full-below (suc l) v ks uk H G u lf p x q E (conflict _ _ _ _ _ _ c e _ _ _) f = cell_full (suc l) v ks uk H G u lf p x q E c e
+  full-below (suc l) v ks uk H G u lf p x q E (below _ _ _ _ lf' p' y o q' E' rest) f =
+      let F = fit m K whole few at (suc l) v ks uk H G u x q in
       subst FullFront
-      (sym (ap (λ (o : Option (LayeredValue l)). from_option [] (trees_at K l (path_down K ks)) o ++ x.0 ∷ []) q'))
-      (full-under x.0 (trees_up K l' y (path_down K (path_down K ks)))
-      (full-below l' x (path_down K ks) F.under F.has F.right F.once lf' p' y q' E' rest f))
+      (sym (ap (λ (o : Option (LayeredValue (suc l))). from_option [] (trees_at K (suc l) (path_down K ks)) o ++ x.0 ∷ []) q'))
+      (full-under x.0 (trees_up K l y (path_down K (path_down K ks)))
+      (full-below l x (path_down K ks) F.under F.has F.right F.once lf' p' y q' E' rest f))
 
   -- ---- what the steps give back, read off the trees on the way
 

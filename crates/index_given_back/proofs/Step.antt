@@ -70,13 +70,13 @@ module _ (m : Memory) (sound : Sound m) (lf p n : ℕ) (L : MayGo m lf p) (empty
   its-nodes = record { long = whole; sound = sound.nodes-sound }
 
   leaf-in : lf < nodes_in m
-  leaf-in = rw (← nodes-long m) (in-use-inside (nodes_view m) lf (rw L.is_IsLeaf tt))
+  leaf-in = rw (← nodes-long m) (in-use-inside (nodes_view m) lf (rw L.is_leaf tt))
 
   node-in : n < nodes_in m
   node-in = rw (← nodes-long m) (in-use-inside (nodes_view m) n (rw empty tt))
 
   right-leaf : T (leaf_right m.nodes lf)
-  right-leaf = leaf-of m.nodes (nodes_in m) its-nodes lf leaf-in {es = L.had} (sym (seen-node m whole lf) ∙ L.is_IsLeaf)
+  right-leaf = leaf-of m.nodes (nodes_in m) its-nodes lf leaf-in {es = L.had} (sym (seen-node m whole lf) ∙ L.is_leaf)
 
   -- the leaf above has an entry, so it is another
   apart : n ≢ lf
@@ -123,7 +123,7 @@ module _ (m : Memory) (sound : Sound m) (lf p n : ℕ) (L : MayGo m lf p) (empty
       omega (
         arith,
         free-given (left_at m lf p) 0 n j used,
-        ap (λ (fs : List ℕ). times_in fs j) (free-kept (nodes_view m) 0 lf x (rw L.is_IsLeaf tt) tt),
+        ap (λ (fs : List ℕ). times_in fs j) (free-kept (nodes_view m) 0 lf x (rw L.is_leaf tt) tt),
         ap (λ (i : ℕ). one_at i j) z,
       )
 
@@ -212,8 +212,8 @@ module _ (m : Memory) (v : Layers) (t : IsTree m v) (bytes : Bytes m.bytes) (K :
   word-node lf p L =
       let N : Nodes m.nodes (nodes_in m) = record { long = (lengths m s.lent).nodes-whole; sound = s.nodes-sound } in
       let r : T (leaf_right m.nodes lf) =
-      leaf-of m.nodes (nodes_in m) N lf (rw (← nodes-long m) (in-use-inside (nodes_view m) lf (rw L.is_IsLeaf tt))) {es = L.had}
-      (sym (seen-node m (lengths m s.lent).nodes-whole lf) ∙ L.is_IsLeaf) in
+      leaf-of m.nodes (nodes_in m) N lf (rw (← nodes-long m) (in-use-inside (nodes_view m) lf (rw L.is_leaf tt))) {es = L.had}
+      (sym (seen-node m (lengths m s.lent).nodes-whole lf) ∙ L.is_leaf) in
       let low : slot_at p (slots_at m.nodes lf) < 15 =
       slot-below (word_at m.nodes lf 1) (leaf-valid m.nodes lf r) p (omega (arith, L.inside, leaf-length m.nodes lf r)) in
       omega arith

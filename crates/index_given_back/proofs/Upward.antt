@@ -77,7 +77,7 @@ same_test : (a b : ℕ) → b ≡ suc a → eqb a 0 ≡ eqb b 1
 same_test zero b e = rw e refl
 same_test (suc a) b e = ne_eqb (suc a) 0 (λ z. omega arith) ∙ sym (ne_eqb b 1 (λ z. omega arith))
 
-module _ (M : NodeList Pointer) (lf n : ℕ) (had left : List (IkeyClass × Pointer)) (is_IsLeaf : node_in M lf ≡ leaf had)
+module _ (M : NodeList Pointer) (lf n : ℕ) (had left : List (IkeyClass × Pointer)) (is_leaf : node_in M lf ≡ leaf had)
     (is-empty : node_in M n ≡ leaf []) (top hi : ℕ) where
   abbrev M' : NodeList Pointer
   M' = set (set M lf (leaf left)) n free
@@ -94,7 +94,7 @@ module _ (M : NodeList Pointer) (lf n : ℕ) (had left : List (IkeyClass × Poin
       go (yes q) = (
         left,
         other ∙ ap (λ (i : ℕ). node_in (set M lf (leaf left)) i) q
-            ∙ get_or-set_same M lf (leaf left) free (in-use-inside M lf (rw is_IsLeaf tt)),
+            ∙ get_or-set_same M lf (leaf left) free (in-use-inside M lf (rw is_leaf tt)),
       )
       go (no q) = (es, other ∙ get_or-set_other M lf r (leaf left) free q ∙ e)
 

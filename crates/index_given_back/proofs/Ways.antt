@@ -160,7 +160,7 @@ module _ (m : Memory) (K : List ℕ) (whole : length m.nodes ≡ 2 + nodes_in m 
               (sym (ap (λ (o : Option (LayeredValue (suc l))). from_option [] (trees_at K (suc l) ks) o ++ w.0 ∷ [])
               (ap (lookup layer_order k) E ∙ lookup-alter layer-order k (λ _. none) its-order)))
               (shorter v.0 w.0 [] D.rooted
-              (layer-less M lf n L.had (view_all (without_at p (entries_at m.nodes lf))) L.is_IsLeaf held.0.1 15 right_edge
+              (layer-less M lf n L.had (view_all (without_at p (entries_at m.nodes lf))) L.is_leaf held.0.1 15 right_edge
               (suc l) v w k (inr (hollow l n)) H D.holds D.rooted q E)));
         }
 
@@ -246,17 +246,19 @@ module _ (m : Memory) (K : List ℕ) (whole : length m.nodes ≡ 2 + nodes_in m 
   is-hollow l ((suc h, t), ds) H y =
       let z : ◌≡◌ {A = ℕ} 0 1 = cc (H.0.1.0, seen t.0, leaf-view m.nodes t.0 (a-leaf t.0 y)) in absurd (omega arith)
 
-  -- from the link above a layer down: where the way ends at an empty layer, that layer goes
-  pub way-given : (l : ℕ) (v : Layered (suc l)) (ks : List ℕ) → BelowLinks ks K → HoldsLayer 15 right_edge (suc l) M v
+  -- the layer in which the way ends
+  missing-given : (l : ℕ) (v : Layered (suc l)) (ks : List ℕ) → BelowLinks ks K → HoldsLayer 15 right_edge (suc l) M v
       → RightLayer at (suc l) ks (map (bare_entry (suc l)) v.1)
       → ((j : ℕ) → layer_reaches (suc l) v j + times_in (free_numbers 0 M) j ≤ 1)
       → (lf p : ℕ) (x : Layered l) → lookup layer_order (layer_key ks K) v.1 ≡ some (inr x)
       → Entered m K (layer_root (suc l) v) (length ks) lf p (link (layer_root l x))
-      → {o : Met} → Way m K l x (path_down K ks) (number_word m.nodes lf p) o → T (to_give_back m.nodes K o)
-      → EndsAt o (λ holder root links. (lf p : ℕ) × (holder ≡ number_word m.nodes lf p) × (1 ≤ links)
+      → lookup layer_order (layer_key (path_down K ks) K) x.1 ≡ none
+      → T (to_give_back m.nodes K (Missing (number_word m.nodes lf p) (layer_root l x) (length (path_down K ks))))
+      → EndsAt (Missing (number_word m.nodes lf p) (layer_root l x) (length (path_down K ks)))
+      (λ holder root links. (lf p : ℕ) × (holder ≡ number_word m.nodes lf p) × (1 ≤ links)
       × (p ≡ link_place m.nodes K lf links)
       × Goes (suc l) v ks lf p root (links - 1))
-  way-given l v ks uk H G u lf p x q E (missing _ _ _ _ none-there) t =
+  missing-given l v ks uk H G u lf p x q E none-there t =
       let F = fit l v ks uk H G u x q in
       let hole = is-hollow l x F.has (layer-empty _ _ _ t) in
       let deep : length (path_down K ks) ≡ suc (length ks) = down-length K ks (length ks) refl in
@@ -269,19 +271,36 @@ module _ (m : Memory) (K : List ℕ) (whole : length m.nodes ≡ 2 + nodes_in m 
         subst (Goes (suc l) v ks lf p (layer_root l x)) (sym up)
             (here l v ks uk H G u lf p (layer_root l x) (q ∙ ap (λ (y : Layered l). some (inr y)) hole) E),
       )
-  way-given l v ks uk H G u lf p x q E (way.stored _ _ _ _ _ _ _ _ _ _ _) t = absurd t
-  way-given l v ks uk H G u lf p x q E (conflict _ _ _ _ _ _ _ _ _ _ _) t = absurd t
-  way-given l v ks uk H G u lf p x q E (below l' _ _ _ lf' p' y o q' E' rest) t =
-      let F = fit l v ks uk H G u x q in
-      on o (way-given l' x (path_down K ks) F.under F.has F.right F.once lf' p' y q' E' rest t)
+
+  -- from the link above a layer down: where the way ends at an empty layer, that layer goes
+  pub way-given : (l : ℕ) (v : Layered (suc l)) (ks : List ℕ) → BelowLinks ks K → HoldsLayer 15 right_edge (suc l) M v
+      → RightLayer at (suc l) ks (map (bare_entry (suc l)) v.1)
+      → ((j : ℕ) → layer_reaches (suc l) v j + times_in (free_numbers 0 M) j ≤ 1)
+      → (lf p : ℕ) (x : Layered l) → lookup layer_order (layer_key ks K) v.1 ≡ some (inr x)
+      → Entered m K (layer_root (suc l) v) (length ks) lf p (link (layer_root l x))
+      → {o : Met} → Way m K l x (path_down K ks) (number_word m.nodes lf p) o → T (to_give_back m.nodes K o)
+      → EndsAt o (λ holder root links. (lf p : ℕ) × (holder ≡ number_word m.nodes lf p) × (1 ≤ links)
+      × (p ≡ link_place m.nodes K lf links)
+      × Goes (suc l) v ks lf p root (links - 1))
+  way-given zero v ks uk H G u lf p x q E (missing _ _ _ _ none-there) t =
+      missing-given zero v ks uk H G u lf p x q E none-there t
+  way-given zero v ks uk H G u lf p x q E (way.stored _ _ _ _ _ _ _ _ _ _ _) t = absurd t
+  way-given zero v ks uk H G u lf p x q E (conflict _ _ _ _ _ _ _ _ _ _ _) t = absurd t
+  way-given (suc l) v ks uk H G u lf p x q E (missing _ _ _ _ none-there) t =
+      missing-given (suc l) v ks uk H G u lf p x q E none-there t
+  way-given (suc l) v ks uk H G u lf p x q E (way.stored _ _ _ _ _ _ _ _ _ _ _) t = absurd t
+  way-given (suc l) v ks uk H G u lf p x q E (conflict _ _ _ _ _ _ _ _ _ _ _) t = absurd t
+  way-given (suc l) v ks uk H G u lf p x q E (below _ _ _ _ lf' p' y o q' E' rest) t =
+      let F = fit (suc l) v ks uk H G u x q in
+      on o (way-given l x (path_down K ks) F.under F.has F.right F.once lf' p' y q' E' rest t)
     where
       on : (o : Met)
           → EndsAt o (λ holder root links. (lf p : ℕ) × (holder ≡ number_word m.nodes lf p) × (1 ≤ links)
           × (p ≡ link_place m.nodes K lf links)
-          × Goes l x (path_down K ks) lf p root (links - 1))
+          × Goes (suc l) x (path_down K ks) lf p root (links - 1))
           → EndsAt o (λ holder root links. (lf p : ℕ) × (holder ≡ number_word m.nodes lf p) × (1 ≤ links)
           × (p ≡ link_place m.nodes K lf links)
-          × Goes (suc l) v ks lf p root (links - 1))
+          × Goes (suc (suc l)) v ks lf p root (links - 1))
       on (Stored _ _ _) e = e
       on (Conflict _ _ _ _) e = e
-      on (Missing holder root links) (lf, p, a, b, c, g) = (lf, p, a, b, c, further l v ks uk H G u lf p root (links - 1) x q g)
+      on (Missing holder root links) (lf, p, a, b, c, g) = (lf, p, a, b, c, further (suc l) v ks uk H G u lf p root (links - 1) x q g)
