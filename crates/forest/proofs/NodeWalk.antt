@@ -116,6 +116,8 @@ module _ (nodes : List ℕ) (W : Key × Ref → Type 0) (count : (e : Key × Ref
         → All (λ p. Holds nodes h p.1) ps → Between (Bounded h) hi lo ps → (ws : Each W (entries ps))
         → Counting (Each Child (spans lo hi ks (tops ps))) (sum_each child_count (spans lo hi ks (tops ps))) (both ps ws)
     unfolding spans
+    children-from lo hi [] [] e helds b ws = elim b [ ]
+    children-from lo hi (k ∷ ks) [] e helds b ws = elim b [ ]
     children-from lo hi [] (p ∷ []) e (held a∷ a[]) (last q lt b) ws =
         let (w, r) = each-split count (entries_of h p.1) [] ws in
         (((lt→ltb _ _ lt, (p.1, refl, held, b, w.0)), tt), λ i. omega (arith, r i))

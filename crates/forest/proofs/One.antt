@@ -38,6 +38,8 @@ module _ (nodes : List ℕ) where
 
     children-same : (lo hi hi' : ℕ) (ps qs : List (ℕ × Tree h)) → edges ps ≡ edges qs → tops ps ≡ tops qs → AllHeld ps → AllHeld qs
         → Between (Bounded h) hi lo ps → Between (Bounded h) hi' lo qs → ps ≡ qs
+    children-same lo hi hi' [] qs e f hs gs r s = elim r [ ]
+    children-same lo hi hi' (p ∷ ps) [] e f hs gs r s = elim s [ ]
     children-same lo hi hi' (p ∷ []) (q ∷ []) e f (a a∷ a[]) (b a∷ a[]) (last x lt r) (last y lu s) =
         let k : p.0 ≡ q.0 = cc in
         let t : p.1 ≡ q.1 = same lo hi hi' p.1 q.1 (cc) a b r s in

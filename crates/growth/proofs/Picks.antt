@@ -88,9 +88,9 @@ pub record Picked {C : Type 0} (R : ℕ → ℕ → C → Type 0) (x : ℕ) (ts 
   pub in_order : lo < hi
   pub fits : R lo hi chosen.1
 
-pub picked : {C : Type 0} {R : ℕ → ℕ → C → Type 0} (x : ℕ) {lo hi : ℕ} {ts : List (ℕ × C)} → lo ≤ x → x < hi → Abutting R hi lo ts
+pub picked : {C : Type 0} {R : ℕ → ℕ → C → Type 0} (x : ℕ) {hi lo : ℕ} {ts : List (ℕ × C)} → lo ≤ x → x < hi → Abutting R hi lo ts
     → Picked R x ts
-picked x {lo} {hi} h i (last_child {p = p} e l r) =
+picked x {hi} {lo} h i (last_child {p = p} e l r) =
     record {
       left = [];
       chosen = p;
@@ -105,7 +105,8 @@ picked x {lo} {hi} h i (last_child {p = p} e l r) =
       in_order = l;
       fits = r;
     }
-picked {C} {R} x {lo} {hi} h i (and_next s {p = p} {ps = q ∷ qs} e l r c) = by (ltb x q.0) refl (λ g. picked x g i c)
+picked x h i (and_next s {ps = []} e l r c) = elim c [ ]
+picked {C} {R} x {hi} {lo} h i (and_next s {p = p} {ps = q ∷ qs} e l r c) = by (ltb x q.0) refl (λ g. picked x g i c)
   where
     low : q.0 ≡ s
     low = abutting-low c
@@ -147,10 +148,11 @@ picked {C} {R} x {lo} {hi} h i (and_next s {p = p} {ps = q ∷ qs} e l r c) = by
 
 -- ---- low ikeys of a chain rise
 
-pub lows-rise : {C : Type 0} {R : ℕ → ℕ → C → Type 0} {lo hi : ℕ} {ts : List (ℕ × C)} → Abutting R hi lo ts
+pub lows-rise : {C : Type 0} {R : ℕ → ℕ → C → Type 0} {hi lo : ℕ} {ts : List (ℕ × C)} → Abutting R hi lo ts
     → T (rising (map (λ (p : ℕ × C). p.0) ts))
 unfolding rising
 lows-rise (last_child e l r) = tt
+lows-rise (and_next s {ps = []} e l r c) = elim c [ ]
 lows-rise (and_next s {p = p} {ps = q ∷ qs} e l r c) =
     and_both (ltb p.0 q.0) _ (lt→ltb p.0 q.0 (let z : q.0 ≡ s = abutting-low c in omega arith)) (lows-rise c)
 

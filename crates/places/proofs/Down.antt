@@ -48,11 +48,12 @@ module _ {C : Type 0} {R : ℕ → ℕ → C → Type 0} (ikey : ℕ) where
   unfolding after_last
   beyond [] c e h = refl
   beyond (k ∷ ks) (last_child a b r) e h = let z : ◌≡◌ {A = ℕ} 0 1 = cc in absurd (omega arith)
-  beyond (k ∷ ks) (and_next s {ps = p ∷ ps} a b r c) e h =
+  beyond {qs = []} (k ∷ ks) (and_next s a b r c) e h = elim c [ ]
+  beyond {lo = lo} (k ∷ ks) (and_next s {ps = p ∷ ps} a b r c) e h =
       let first : suc k ≡ p.0 = cc in
       let low : p.0 ≡ s = abutting-low c in
       let others : map suc ks ≡ map (λ p. p.0) ps = cc in
-      rw (beyond ks c others (omega arith), lt-leb k ikey (omega arith))
+      rw (beyond {lo = s} ks c others (omega arith), lt-leb k ikey (omega arith))
 
   pick-child : (P : ℕ × C → ℕ → Type 0) (rt : C → ℕ) {lo hi : ℕ} {ps : List (ℕ × C)} (ks : List ℕ) → Abutting R hi lo ps
       → map suc ks ≡ map (λ p. p.0) (drop 1 ps)
@@ -60,11 +61,13 @@ module _ {C : Type 0} {R : ℕ → ℕ → C → Type 0} (ikey : ℕ) where
   unfolding after_last
   pick-child P rt [] (last_child a b r) e (h a∷ a[]) = here refl h
   pick-child P rt (k ∷ ks) (last_child a b r) e hs = let z : ◌≡◌ {A = ℕ} 0 1 = cc in absurd (omega arith)
+  pick-child P rt [] (and_next s {ps = []} a b r c) e hs = elim c [ ]
+  pick-child P rt (k ∷ ks) (and_next s {ps = []} a b r c) e hs = elim c [ ]
   pick-child P rt [] (and_next s {ps = q ∷ qs} a b r c) e hs = let z : ◌≡◌ {A = ℕ} 0 1 = cc in absurd (omega arith)
-  pick-child P rt (k ∷ ks) (and_next s {p = p} {ps = q ∷ qs} a b r c) e (h a∷ hs) =
+  pick-child P rt {lo = lo} (k ∷ ks) (and_next s {p = p} {ps = q ∷ qs} a b r c) e (h a∷ hs) =
       let first : suc k ≡ q.0 = cc in
       let others : map suc ks ≡ map (λ p. p.0) qs = cc in
-      go first others (ltb (suc ikey) q.0) refl (pick-child P rt ks c others hs)
+      go first others (ltb (suc ikey) q.0) refl (pick-child P rt {lo = s} ks c others hs)
     where
       tops : List ℕ
       tops = map (λ p. rt p.1) (q ∷ qs)
@@ -143,7 +146,7 @@ module _ (nodes : List ℕ) (M : NodeList Pointer) (seen : (k : ℕ) → node_in
         rw (cs, tops-map d t.1) (pick-child ikey (LeadsDown d) (tree_root Pointer d) (ikeys_at nodes t.0) w.0
         (ks ∙ lows-map d t.1) (go w.0 h.1 (leads d)))
       where
-        go : {lo hi : ℕ} {ps : List (ℕ × TreeOver Pointer d)} → Abutting (WellFormed Pointer top d) hi lo ps
+        go : {hi lo : ℕ} {ps : List (ℕ × TreeOver Pointer d)} → Abutting (WellFormed Pointer top d) hi lo ps
             → All (λ p. HoldsTree Pointer M d p.1) ps
             → ((lo hi : ℕ) (t : TreeOver Pointer d) → WellFormed Pointer top d lo hi t → HoldsTree Pointer M d t
             → Leads (suc ikey) d t (leaf_for nodes d (tree_root Pointer d t) ikey))
@@ -168,7 +171,7 @@ module _ (M : NodeList Pointer) (top : ℕ) where
       subst (LeafIn M top) l (record { has = t.1; is_leaf = h; sorted = w.0; classes = all_map (λ e b. b.2) w.1; short = w.2 })
   lead-leaf x (suc d) lo hi n t w h l = go w.0 h.1 l (λ lo hi t. lead-leaf x d lo hi n t)
     where
-      go : {lo hi : ℕ} {ps : List (ℕ × TreeOver Pointer d)} → Abutting (WellFormed Pointer top d) hi lo ps
+      go : {hi lo : ℕ} {ps : List (ℕ × TreeOver Pointer d)} → Abutting (WellFormed Pointer top d) hi lo ps
           → All (λ p. HoldsTree Pointer M d p.1) ps
           → Picked x (λ p. Leads x d p.1 n) ps → ((lo hi : ℕ) (t : TreeOver Pointer d) → WellFormed Pointer top d lo hi t
           → HoldsTree Pointer M d t → Leads x d t n → LeafIn M top n)
@@ -200,5 +203,6 @@ module _ (M : NodeList Pointer) (top : ℕ) where
           → ((p : ℕ × TreeOver Pointer d) → HoldsTree Pointer M d p.1 → Leads k.0 d p.1 n
           → tree_find Pointer d k p ≡ lookup layer_order k (leaf_entries (node_in M n)))
           → of_child none (tree_find Pointer d k) k.0 ps ≡ lookup layer_order k (leaf_entries (node_in M n))
+      go a[] x7 f = elim x7 [ ]
       go (h a∷ hs) (here {p = p} q l) f = rw q (f p h l)
       go (h a∷ hs) (later q l) f = rw q (go hs l f)

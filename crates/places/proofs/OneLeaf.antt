@@ -66,7 +66,7 @@ module _ (M : NodeList Pointer) (top mid : ℕ) (cut : List (IkeyClass × Pointe
       inside (here {p = p} q l) = omega (arith, lead-counted M top k.0 d n p.1 l)
       inside (later q l) = omega (arith, inside l)
 
-      go : {lo hi : ℕ} {ps : List (ℕ × TreeOver Pointer d)} → Abutting (WellFormed Pointer top d) hi lo ps → All (LowsAgree Pointer d) ps
+      go : {hi lo : ℕ} {ps : List (ℕ × TreeOver Pointer d)} → Abutting (WellFormed Pointer top d) hi lo ps → All (LowsAgree Pointer d) ps
           → All (λ p. HoldsTree Pointer M d p.1) ps
           → ((j : ℕ) → total (λ p. tree_reaches Pointer d p.1 j) ps ≤ 1) → Picked k.0 (λ p. Leads k.0 d p.1 n) ps
           → ((lo hi : ℕ) (p : ℕ × TreeOver Pointer d) → WellFormed Pointer top d lo hi p.1 → LowsAgree Pointer d p

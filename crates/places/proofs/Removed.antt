@@ -58,11 +58,11 @@ module _ (m : Memory) (sound : Sound m) (lf p c : ℕ) (inside : c < cells_in m)
   its-nodes = record { long = (lengths m sound.lent).nodes-whole; sound = sound.nodes-sound }
 
   in_memory : lf < nodes_in m
-  in_memory = rw (← nodes-long m) (in-use-inside (nodes_view m) lf (rw L.is_IsLeaf tt))
+  in_memory = rw (← nodes-long m) (in-use-inside (nodes_view m) lf (rw L.is_leaf tt))
 
   right-leaf : T (leaf_right m.nodes lf)
   right-leaf = leaf-of m.nodes (nodes_in m) its-nodes lf in_memory {es = L.had}
-      (sym (seen-node m (lengths m sound.lent).nodes-whole lf) ∙ L.is_IsLeaf)
+      (sym (seen-node m (lengths m sound.lent).nodes-whole lf) ∙ L.is_leaf)
 
   node-taken : Wrote m.nodes (entry_taken m.nodes lf p) (nodes_in m) lf (leaf (view_all (without_at p (entries_at m.nodes lf))))
   node-taken =
@@ -205,7 +205,7 @@ module _ (m : Memory) (v : Layers) (t : Forest m v) (bytes : Bytes m.bytes) (K :
       ap (free_nodes (entry_taken m.nodes lf p)) (sym (as-many-nodes m s lf p c inside L))
       ∙ sym (frees-view (after m s lf p c inside L) (after-sound m s lf p c inside L))
       ∙ ap (free_numbers 0) (after-nodes m s lf p c inside L)
-      ∙ free-kept (nodes_view m) 0 lf (leaf (view_all (without_at p (entries_at m.nodes lf)))) (rw L.is_IsLeaf tt) tt
+      ∙ free-kept (nodes_view m) 0 lf (leaf (view_all (without_at p (entries_at m.nodes lf)))) (rw L.is_leaf tt) tt
       ∙ frees-view m s
 
   pub removed-frees : stored m K ≡ true → (c : ℕ) × FreesCell (calls.without m (place m K)) c

@@ -86,9 +86,9 @@ internode-count n more h = go (ℕ_discrete n 16)
 -- ---- the tree of one layer
 
 -- what holds between the bounds of each child
-each-child : {C : Type 0} {R : ℕ → ℕ → C → Type 0} {lo hi : ℕ} {ps : List (ℕ × C)} → Abutting R hi lo ps
+each-child : {C : Type 0} {R : ℕ → ℕ → C → Type 0} {hi lo : ℕ} {ps : List (ℕ × C)} → Abutting R hi lo ps
     → All (λ p. (a : ℕ) × ((b : ℕ) × R a b p.1)) ps
-each-child {lo = lo} {hi = hi} (last_child e l r) = (lo, (hi, r)) a∷ a[]
+each-child {hi = hi} {lo = lo} (last_child e l r) = (lo, (hi, r)) a∷ a[]
 each-child {lo = lo} (and_next s e l r rest) = (lo, (s, r)) a∷ each-child rest
 
 module _ (M : NodeList Pointer) (ikey : ℕ) where

@@ -9,7 +9,7 @@ use lib.Dec.{T, eqb, leb, leb→le}
 use lib.ListN.{length, drop, length-map}
 use borrow.Author.Tests.{ne_eqb}
 use Rattle.bank.proofs.Tests.{and_left, and_right}
-use Rattle.order.specs.Map.{All, ◌a∷◌, Sorted}
+use Rattle.order.specs.Map.{All, ◌a∷◌, a[], Sorted}
 use Rattle.arena.specs.Layout.{node_start, kind_at}
 use Rattle.arena.specs.Memory.{Memory}
 use Rattle.arena.proofs.Words.{part_length}
@@ -112,11 +112,13 @@ fork-view h ps = ap₂ internode (fork-edges h ps) (fork-tops h ps)
 module _ (h : ℕ) {R : ℕ → ℕ → Tree h → Type 0} {Q : ℕ → ℕ → TreeOver Pointer h → Type 0} where
   between-view : {H : Tree h → Type 0} → ((lo hi : ℕ) (t : Tree h) → H t → R lo hi t → Q lo hi (tree_view h t))
       → {lo hi : ℕ} {ps : List (ℕ × Tree h)} → All (λ p. H p.1) ps → Between R hi lo ps → Abutting Q hi lo (map (child_view h) ps)
+  between-view f a[] x3 = elim x3 [ ]
   between-view f {lo} {hi} (g a∷ gs) (last {p = p} e l r) = last_child e l (f lo hi p.1 g r)
-  between-view f {lo} (g a∷ gs) (next s {p = p} e l r rest) = and_next s e l (f lo s p.1 g r) (between-view f gs rest)
+  between-view f {lo} (g a∷ gs) (next s {p = p} e l r rest) = and_next s e l (f lo s p.1 g r) (between-view f {lo = s} gs rest)
 
   view-between : ((lo hi : ℕ) (t : Tree h) → Q lo hi (tree_view h t) → R lo hi t) → (lo hi : ℕ) (ps : List (ℕ × Tree h))
       → Abutting Q hi lo (map (child_view h) ps) → Between R hi lo ps
+  view-between f lo hi [] x' = elim x' [ ]
   view-between f lo hi (p ∷ []) (last_child e l q) = last e l (f lo hi p.1 q)
   view-between f lo hi (p ∷ []) (and_next s e l q c) = next s e l (f lo s p.1 q) (view-between f s hi [] c)
   view-between f lo hi (p ∷ x ∷ ps) (and_next s e l q c) = next s e l (f lo s p.1 q) (view-between f s hi (x ∷ ps) c)

@@ -12,7 +12,7 @@ use lib.ListN.{length, get_or, drop, length-drop}
 use lib.Seq.{take-suc, get_or-drop}
 use borrow.Author.Tests.{ne_eqb}
 use Rattle.arena.specs.Parts.{part}
-use Rattle.forest.specs.OneLeaf.{every}
+use Rattle.leaf.specs.Lists.{every}
 use Rattle.forest.specs.Nodes.{all_zero}
 
 pub and_yes : (a : Bool) → a ≡ a && true

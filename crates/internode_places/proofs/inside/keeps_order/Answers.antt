@@ -1,11 +1,11 @@
 -- `inside::keeps_order` meets its contract. Assumes nothing.
 use mathlib.Core.Path.{◌≡◌}
-use mathlib.Core.Logic.{⊎_elim}
 use native.Mathlib.Omega.{arith}
 use borrow.Author.Rules.{rules}
 use lib.ListN.{length}
 use Rattle.internode_places.proofs.Judgement.{good-n, fits-not-high, fits-first, fits-left}
 use Rattle.internode_places.proofs.inside.keeps_order.Goals as goal
+use Rattle.internode_places.proofs.inside.keeps_order.Goals.{then-p-node+else-node-p, else-p-node}
 
 pub offset_bounds-node-p : goal.offset_bounds-node-p
 offset_bounds-node-p c = let h = good-n c.args.node c.requires.0 in search rules
@@ -20,7 +20,7 @@ pub returns-then-p-eq0 : goal.returns-then-p-eq0
 returns-then-p-eq0 c =
     let k : length c.args.node.ikeys ≡ 15 = search rules in
     fits-first c.args.node k c.requires.0 c.args.ikey c.requires.1
-    (⊎_elim (λ w _. w.2.left) (λ w h. absurd (omega arith)) c.if-p-node.branch)
+    (elim c.if-p-node.branch [ then-p-node+else-node-p w ↦ λ h. w.if-node-p.false | else-p-node w ↦ λ h. absurd (omega arith) ])
     c.if-p-eq0.true
 
 pub offset_bounds-node-p-2 : goal.offset_bounds-node-p-2
@@ -33,5 +33,5 @@ pub returns : goal.returns
 returns c =
     let k : length c.args.node.ikeys ≡ 15 = search rules in
     fits-left c.args.node k c.requires.0 c.args.ikey c.requires.1
-    (⊎_elim (λ w _. w.2.left) (λ w h. absurd (omega arith)) c.if-p-node.branch)
+    (elim c.if-p-node.branch [ then-p-node+else-node-p w ↦ λ h. w.if-node-p.false | else-p-node w ↦ λ h. absurd (omega arith) ])
     c.if-p-eq0.false

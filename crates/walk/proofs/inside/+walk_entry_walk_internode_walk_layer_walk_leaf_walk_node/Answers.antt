@@ -25,26 +25,26 @@ walk_internode-returns-then-not-internode_right t c = search interwise
 pub walk_internode-loop-i-init : goal.walk_internode-loop-i-init
 walk_internode-loop-i-init t c = search interwise
 
-pub walk_internode-returns-then-not-is_between : goal.walk_internode-returns-then-not-is_between
-walk_internode-returns-then-not-is_between t c = (
-  inter-out _ _ _ _ _ _ _ c.loop-i.invariant.3
-      c.internode_right.ensures
-      (not-false _ c.if-not-internode_right.false-raw)
-      c.requires.k_in_bounds
-      c.loop-i-test.true c.right_edge-right.ensures c.is_between.ensures (not-true _ c.if-not-is_between.true-raw),
-  c.loop-i.invariant.5,
-)
+pub walk_internode-returns-then-not-is_between-clause-seen_after : goal.walk_internode-returns-then-not-is_between-clause-seen_after
+walk_internode-returns-then-not-is_between-clause-seen_after t c = inter-out _ _ _ _ _ _ _ c.loop-i.invariant.3
+    c.internode_right.ensures
+    (not-false _ c.if-not-internode_right.false-raw)
+    c.requires.k_in_bounds
+    c.loop-i-test.true c.right_edge-right.ensures c.is_between.ensures (not-true _ c.if-not-is_between.true-raw)
 
-pub walk_internode-returns-then-not-walk_node : goal.walk_internode-returns-then-not-walk_node
-walk_internode-returns-then-not-walk_node t c = (
-  inter-fails _ _ _ _ _ _ _ c.loop-i.invariant.3
-      c.internode_right.ensures
-      (not-false _ c.if-not-internode_right.false-raw)
-      c.requires.k_in_bounds
-      c.loop-i-test.true c.right_edge-right.ensures c.is_between.ensures
-      (not-false _ c.if-not-is_between.false-raw) _ c.walk_node.ensures.seen_after (not-true _ c.if-not-walk_node.true-raw),
-  c.walk_node.ensures.above_unchanged ∙ c.loop-i.invariant.5,
-)
+pub walk_internode-returns-then-not-is_between-clause-above_unchanged : goal.walk_internode-returns-then-not-is_between-clause-above_unchanged
+walk_internode-returns-then-not-is_between-clause-above_unchanged t c = c.loop-i.invariant.5
+
+pub walk_internode-returns-then-not-walk_node-clause-seen_after : goal.walk_internode-returns-then-not-walk_node-clause-seen_after
+walk_internode-returns-then-not-walk_node-clause-seen_after t c = inter-fails _ _ _ _ _ _ _ c.loop-i.invariant.3
+    c.internode_right.ensures
+    (not-false _ c.if-not-internode_right.false-raw)
+    c.requires.k_in_bounds
+    c.loop-i-test.true c.right_edge-right.ensures c.is_between.ensures
+    (not-false _ c.if-not-is_between.false-raw) _ c.walk_node.ensures.seen_after (not-true _ c.if-not-walk_node.true-raw)
+
+pub walk_internode-returns-then-not-walk_node-clause-above_unchanged : goal.walk_internode-returns-then-not-walk_node-clause-above_unchanged
+walk_internode-returns-then-not-walk_node-clause-above_unchanged t c = c.walk_node.ensures.above_unchanged ∙ c.loop-i.invariant.5
 
 pub walk_internode-loop-i-preserved : goal.walk_internode-loop-i-preserved
 walk_internode-loop-i-preserved t c = (
@@ -80,24 +80,24 @@ walk_leaf-loop-i-init t c = search leafwise
 pub walk_leaf-slot_at-slot-requires : goal.walk_leaf-slot_at-slot-requires
 walk_leaf-slot_at-slot-requires t c = search leafwise
 
-pub walk_leaf-returns-then-not-is_within : goal.walk_leaf-returns-then-not-is_within
-walk_leaf-returns-then-not-is_within t c = (
-  leaf-out _ _ _ _ _ _ _ c.loop-i.invariant.2
-      c.size_of-size.ensures c.loop-i-test.true
-      c.slot_at-slot.ensures.0
-      c.entry_at-e.ensures c.is_within.ensures (not-true _ c.if-not-is_within.true-raw),
-  c.loop-i.invariant.4,
-)
+pub walk_leaf-returns-then-not-is_within-clause-seen_after : goal.walk_leaf-returns-then-not-is_within-clause-seen_after
+walk_leaf-returns-then-not-is_within-clause-seen_after t c = leaf-out _ _ _ _ _ _ _ c.loop-i.invariant.2
+    c.size_of-size.ensures c.loop-i-test.true
+    c.slot_at-slot.ensures.0
+    c.entry_at-e.ensures c.is_within.ensures (not-true _ c.if-not-is_within.true-raw)
 
-pub walk_leaf-returns-then-not-walk_entry : goal.walk_leaf-returns-then-not-walk_entry
-walk_leaf-returns-then-not-walk_entry t c = (
-  leaf-fails _ _ _ _ _ _ _ c.loop-i.invariant.2
-      c.size_of-size.ensures c.loop-i-test.true
-      c.slot_at-slot.ensures.0
-      c.entry_at-e.ensures c.is_within.ensures (not-false _ c.if-not-is_within.false-raw) _
-      c.walk_entry.ensures.seen_after (not-true _ c.if-not-walk_entry.true-raw),
-  c.walk_entry.ensures.above_unchanged ∙ c.loop-i.invariant.4,
-)
+pub walk_leaf-returns-then-not-is_within-clause-above_unchanged : goal.walk_leaf-returns-then-not-is_within-clause-above_unchanged
+walk_leaf-returns-then-not-is_within-clause-above_unchanged t c = c.loop-i.invariant.4
+
+pub walk_leaf-returns-then-not-walk_entry-clause-seen_after : goal.walk_leaf-returns-then-not-walk_entry-clause-seen_after
+walk_leaf-returns-then-not-walk_entry-clause-seen_after t c = leaf-fails _ _ _ _ _ _ _ c.loop-i.invariant.2
+    c.size_of-size.ensures c.loop-i-test.true
+    c.slot_at-slot.ensures.0
+    c.entry_at-e.ensures c.is_within.ensures (not-false _ c.if-not-is_within.false-raw) _
+    c.walk_entry.ensures.seen_after (not-true _ c.if-not-walk_entry.true-raw)
+
+pub walk_leaf-returns-then-not-walk_entry-clause-above_unchanged : goal.walk_leaf-returns-then-not-walk_entry-clause-above_unchanged
+walk_leaf-returns-then-not-walk_entry-clause-above_unchanged t c = c.walk_entry.ensures.above_unchanged ∙ c.loop-i.invariant.4
 
 pub walk_leaf-loop-i-preserved : goal.walk_leaf-loop-i-preserved
 walk_leaf-loop-i-preserved t c = (
