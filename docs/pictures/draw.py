@@ -26,6 +26,7 @@ ROOMS = {
     "one node": ("node", "one node", "one internode or one leaf: search, insertion, cut"),
     "lent memory, and whether it is a tree": ("memory", "lent memory and its audit", "nodes and cells, and whether they are a tree"),
     "the index": ("index", "the index", "clear, put, find, remove, k-th entry"),
+    "the index, all calls": ("calls", "the index, all calls", "put behind the audit, and the six calls under one name"),
     "what it means: a sorted map": ("meaning", "what it means", "the index answers as a sorted map"),
     "lines in, lines out": ("lines", "lines in, lines out", "the program, and what it prints"),
     "the index saved to a card": ("card", "the card", "the index saved as blocks with checks, and read back; the program that does both"),
@@ -46,6 +47,7 @@ LEVELS = [
     [("memory", LEFT, FLOOR)],
     [("index", LEFT, FLOOR)],
     [("meaning", LEFT, FLOOR)],
+    [("calls", LEFT, FLOOR)],
     [("lines", LEFT, FLOOR)],
     [("card", LEFT, FLOOR)],
     [("demands", LEFT, CAMERA - 12), ("camera", CAMERA, FLOOR)],
@@ -86,7 +88,8 @@ def read():
             if heading not in ROOMS and heading not in SHARED:
                 fail(f"crates.txt has a group '{heading}' that stands on no floor: give it one in ROOMS")
         elif line.strip():
-            name, _, rest = line.partition(":")
+            head, _, rest = line.partition(":")
+            name = head.split()[0]
             room = heading
             if heading in SHARED:
                 first, second, names = SHARED[heading]

@@ -6,9 +6,9 @@ here=$(cd "$(dirname "$0")" && pwd)
 root=$(cd "$here/../.." && pwd)
 work=$(mktemp -d)
 trap 'rm -rf "$work"' EXIT
-(cd "$root" && rt staticlib firmware >/dev/null)
+(cd "$root/crates/firmware" && rt lib >/dev/null)
 rustc --edition 2024 -O -A warnings --crate-type lib --crate-name key -o "$work/libkey.rlib" "$folder/key.rs"
-rustc --edition 2024 -O --extern key="$work/libkey.rlib" -L "$root/target/staticlib" -l static=firmware -o "$work/bench" "$here/bench.rs"
+rustc --edition 2024 -O --extern key="$work/libkey.rlib" -L "$root/crates/firmware/out" -l static=firmware -o "$work/bench" "$here/bench.rs"
 counted() {
     valgrind --tool=callgrind --callgrind-out-file=/dev/null "$work/bench" "$1" "$2" 2>&1 | awk '/Collected/ { print $4 }'
 }
