@@ -24,10 +24,12 @@ returns-then-not-is_empty_layer t c =
 pub free_layer-requires : goal.free_layer-requires
 free_layer-requires t c =
     let lent = c.requires.0 in
-    let f = empty-facts _ _ _ _ _ lent c.is_empty_layer.ensures (not-false _ c.if-not-is_empty_layer.false-raw) in (
-      (lent, f.0, omega (arith, missing-within _ _ c.seek-met.ensures.within c.in-Missing.is)),
-      ((f.1, f.2, f.3), f.4),
-    )
+    let f = empty-facts _ _ _ _ _ lent c.is_empty_layer.ensures (not-false _ c.if-not-is_empty_layer.false-raw) in
+    let w = missing-within _ _ c.seek-met.ensures.within c.in-Missing.is in record {
+      nodes_lent = (lent, f.0, omega (arith, w));
+      le_holder = (f.1, f.2, f.3);
+      root_in_bounds = f.4;
+    }
 
 pub returns : goal.returns
 returns t c =
