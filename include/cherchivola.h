@@ -18,9 +18,9 @@
  *   stands in lent memory is copied out before it is handed to remove_key.
  * - There is stack enough. Below each part stands how much its calls take.
  *
- * The calls are in libfirmware.a, which `rt staticlib firmware` proves and writes to target/staticlib. It is code for x86-64 and links into
- * x86-64 Linux programs only, on whatever machine it was made: not into a program for an Arm processor. It calls memcpy and memset of the
- * C library, and nothing else.
+ * The calls are in libfirmware.a, which `rt lib` in crates/firmware proves and writes to crates/firmware/out. It is code for x86-64 and
+ * links into x86-64 Linux programs only: not into a program for an Arm processor. It calls memcpy and memset of the C library, and nothing
+ * else.
  */
 #ifndef CHERCHIVOLA_H
 #define CHERCHIVOLA_H
