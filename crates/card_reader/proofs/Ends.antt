@@ -49,12 +49,8 @@ module _ (lacks place : ℕ) where
   end-early Framing h e = absurd (omega (arith, h))
   end-early Stopped h e = absurd (omega (arith, h))
 
-  pub end-other : (stage : Stage) → OneOf (0 ∷ 1 ∷ 2 ∷ 3 ∷ 5 ∷ []) (tag_of stage-type.the_type stage) → Wrong place ≡ end_of stage lacks place
-  end-other Filling (inl g) = absurd (omega (arith, g))
-  end-other Filling (inr (inl g)) = absurd (omega (arith, g))
-  end-other Filling (inr (inr (inl g))) = absurd (omega (arith, g))
-  end-other Filling (inr (inr (inr (inl g)))) = absurd (omega (arith, g))
-  end-other Filling (inr (inr (inr (inr g)))) = absurd (omega (arith, g))
+  pub end-other : (stage : Stage) → (stage ≡ Filling → ⊥) → Wrong place ≡ end_of stage lacks place
+  end-other Filling h = absurd (h refl)
   end-other Counting h = refl
   end-other Measuring h = refl
   end-other Naming h = refl

@@ -13,9 +13,9 @@ verdict_of (right entries) = Right
 
 -- by the stage of the machine when no more bytes come: it is right behind the last zero of the fill, and nowhere else
 abbrev pub end_of : Stage → ℕ → ℕ → Verdict
-end_of Counting zeros place = Wrong place
-end_of Measuring zeros place = Wrong place
-end_of Naming zeros place = Wrong place
-end_of Framing zeros place = Wrong place
-end_of Filling zeros place = cond (eqb zeros 0) Right (Wrong place)
-end_of Stopped zeros place = Wrong place
+end_of Counting lacks place = Wrong place
+end_of Measuring lacks place = Wrong place
+end_of Naming lacks place = Wrong place
+end_of Framing lacks place = Wrong place
+end_of Filling lacks place = cond (eqb lacks 0) Right (Wrong place)
+end_of Stopped lacks place = Wrong place

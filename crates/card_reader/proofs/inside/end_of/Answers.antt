@@ -9,4 +9,4 @@ pub returns-else-t-eq0 : goal.returns-else-t-eq0
 returns-else-t-eq0 c = search end-early
 
 pub returns-in_default : goal.returns-in_default
-returns-in_default c = search end-other
+returns-in_default c = end-other _ _ c.args.t.stage c.in_default.not-Filling
