@@ -1,6 +1,7 @@
 -- `index_remove::remove` meets its contract. Assumes nothing.
 use native.Mathlib.Omega.{arith}
 use borrow.Author.Tests.{not-true, not-false}
+use borrow.Author.Rules.{rules}
 use Rattle.index_remove.proofs.Lent.{tree-root, tree-seek, stored-entry, stored-cell, still-lent}
 use Rattle.index_remove.proofs.Removing.{remove-long, remove-unfit, remove-none, remove-done}
 use Rattle.index_remove.proofs.remove.Goals as goal
@@ -19,8 +20,8 @@ slice_reshared_read-seek c =
 
 pub seek-met-requires : goal.seek-met-requires
 seek-met-requires c =
-    tree-seek _ _ _ c.is_tree.ensures (not-false _ c.if-not-is_tree.false-raw)
-    c.if-key-gt-LONGEST.false
+    let h = tree-seek _ _ _ c.is_tree.ensures (not-false _ c.if-not-is_tree.false-raw) c.if-key-gt-LONGEST.false in
+    record { nodes_lent = h.0; key_len_bound = h.1 }
 
 pub take_counted-requires : goal.take_counted-requires
 take_counted-requires c =
@@ -56,4 +57,4 @@ returns-in-Stored c =
 pub returns : goal.returns
 returns c =
     remove-none _ _ _ _ c.if-key-gt-LONGEST.false c.is_tree.ensures
-    (not-false _ c.if-not-is_tree.false-raw) _ c.seek-met.ensures.value c.in_default.in_default-own.keys2
+    (not-false _ c.if-not-is_tree.false-raw) _ c.seek-met.ensures.value (search rules)
