@@ -41,14 +41,13 @@ pub loop-k-smaller : goal.loop-k-smaller
 loop-k-smaller c = search counts
 
 pub loop-k-preserved : goal.loop-k-preserved
-loop-k-preserved c =
-    (
-      search counts,
-      cells-next _ _ _ _ c.if-seen-k-eq1.false c.cell_free.ensures c.loop-k.invariant.1
-          (not-false _ c.if-not-cell_free.false-raw),
-      search counts,
-      search counts,
-    )
+loop-k-preserved c = (
+  search counts,
+  cells-next _ _ _ _ c.if-seen-k-eq1.false c.cell_free.ensures c.loop-k.invariant.1
+      (not-false _ c.if-not-cell_free.false-raw),
+  search counts,
+  search counts,
+)
 
 pub returns : goal.returns
 returns c = search counts

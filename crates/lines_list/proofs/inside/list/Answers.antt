@@ -13,7 +13,11 @@ pub header-next-requires : goal.header-next-requires
 header-next-requires c = search header-room
 
 pub entries-requires : goal.entries-requires
-entries-requires c = (search tree_is, (search rules, search entries-room))
+entries-requires c = record {
+  bytes_value = search tree_is;
+  n_value = search rules;
+  bytes_in_bounds = search entries-room;
+}
 
 pub returns : goal.returns
 returns c = search list_done

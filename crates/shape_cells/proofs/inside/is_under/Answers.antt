@@ -18,12 +18,11 @@ pub returns-then-eight-above : goal.returns-then-eight-above
 returns-then-eight-above c = search unders
 
 pub loop-i-preserved : goal.loop-i-preserved
-loop-i-preserved c =
-    (
-      search rules,
-      under_next _ _ _ c.requires.0 c.loop-i.invariant.1 c.loop-i-test.true c.eight.ensures
-          c.if-eight-above.false c.if-key-links.false,
-    )
+loop-i-preserved c = (
+  search rules,
+  under_next _ _ _ c.requires.0 c.loop-i.invariant.1 c.loop-i-test.true c.eight.ensures
+      c.if-eight-above.false c.if-key-links.false,
+)
 
 pub returns : goal.returns
 returns c = search unders
