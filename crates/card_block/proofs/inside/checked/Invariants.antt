@@ -5,7 +5,7 @@ use Rattle.card_block.proofs.Checks.{from_word}
 use Rattle.card_block.proofs.inside.checked.Given as goal
 
 abbrev pub invariant-loop-i : goal.invariant-loop-i
-invariant-loop-i l = (l.i ≤ 126) × (from_word l.block l.i (record { l.a = l.a; l.b = l.b }) ≡ check_of l.number l.block)
+invariant-loop-i l = (l.i ≤ 126) × (from_word l.block l.i (record { a = l.a; b = l.b }) ≡ check_of l.number l.block)
 
 abbrev pub decreases-loop-i : goal.decreases-loop-i
 decreases-loop-i l = 126 - l.i
