@@ -1,10 +1,17 @@
-// Files by name: one read to its end, and one replaced by another as a whole. Where that fails the reason is said on standard error.
+// Files by name: one read to its end, and one replaced by another as a whole. Where that fails the reason is said to a writer, which the
+// programs make standard error. What cannot be said there is not said.
 #![tactic(auto)]
 
-ghost use Rattle.std.specs.Prelude.{◌++◌, ◌≤◌, length};
-ghost use Rattle.io.specs.Counts.{IsPrefixLen};
+ghost use Rattle.std.specs.Prelude.{◌≡◌, ◌+◌, ◌-◌, ◌++◌, ◌<◌, ◌≤◌, length, slice_index};
 ghost use Rattle.page.specs.Page.{Typed};
-ghost use Rattle.card_files.specs.Names.{to_be_filled};
+ghost use Rattle.card_files.specs.Counts.{IsPrefixLen};
+ghost use Rattle.card_files.specs.Names.{filled_in, low_digits, to_be_filled, IsFilledIn, IsNewName};
+
+use std::fs::{File, OpenFile, OpenOptions};
+use std::io::{Cursor, ErrorKind, Read, Write};
+use std::os::unix::fs::OpenOptionsExt;
+use std::rt::Files;
+use std::{fs, io, str};
 
 // Whether a file was read to its end, and how many bytes of it stand at the front of the lent ones.
 #[derive(Clone, Copy)]
@@ -13,74 +20,110 @@ pub struct Contents {
     pub bytes: usize,
 }
 
+// A file that was not read.
+fn nothing() -> Contents
+    ensures { result.bytes ≡ 0 }
+{
+    Contents {
+        whole: false,
+        bytes: 0,
+    }
+}
+
+// ---- what is said of a failure
+
+// Says of a file what stands behind its name.
+fn say<E: Write>(err: &mut E, path: &[u8], what: &str) {
+    let _ = err.write_all(path);
+    let _ = err.write_all(what.as_bytes());
+    let _ = err.write_all(b"\n");
+}
+
+// The reason of an error in words: without the number of the system's error, which std puts behind them.
+fn words(text: &str) -> &str {
+    match text.rsplit_once(" (os error ") {
+        Some((words, _)) => words,
+        None => text,
+    }
+}
+
+// Says of a file why a call failed.
+fn fail<E: Write>(err: &mut E, path: &[u8], error: io::Error) {
+    let mut text = Cursor::new([0u8; 128]);
+    let _ = write!(text, ": {error}");
+    let n = text.position().min(128) as usize;
+    let all = text.into_inner();
+    match str::from_utf8(&all[..n]) {
+        Ok(text) => say(err, path, words(text)),
+        Err(_) => say(err, path, ""),
+    }
+}
+
 // ---- reading
 
 // Whether there is nothing more to be read from a file of which as much was read as was lent.
-fn ends(fd: i32, path: &[u8]) -> bool {
+fn ends<F: Read, E: Write>(file: &mut F, err: &mut E, path: &[u8]) -> bool {
     let mut more = [0u8; 1];
-    let got = libc::read(fd, &mut more);
-    if got < 0 {
-        os::fail(path);
-        return false;
+    match file.read(&mut more) {
+        Ok(0) => true,
+        Ok(_) => {
+            say(err, path, ": longer than any image");
+            false
+        }
+        Err(error) => {
+            fail(err, path, error);
+            false
+        }
     }
-    if got > 0 {
-        io::write_all(2, path);
-        io::write_all(2, b": longer than any image\n");
-        return false;
-    }
-    true
 }
 
 // Reads an open file to its end, as far as the lent bytes reach.
-fn read_on(fd: i32, path: &[u8], lent: &mut [u8]) -> Contents
+fn read_on<F: Read, E: Write>(file: &mut F, err: &mut E, path: &[u8], lent: &mut [u8]) -> Contents
     ensures { IsPrefixLen result.bytes lent.new }
 {
     let mut done = 0;
     // The first `done` bytes of the file stand at the front of the lent ones.
     while done < lent.len() {
-        let got = libc::read(fd, &mut lent[done..]);
-        if got < 0 {
-            os::fail(path);
-            return Contents {
-                whole: false,
-                bytes: 0,
-            };
+        match file.read(&mut lent[done..]) {
+            Ok(0) => {
+                return Contents {
+                    whole: true,
+                    bytes: done,
+                };
+            }
+            Ok(n) => done += n,
+            Err(error) => {
+                fail(err, path, error);
+                return nothing();
+            }
         }
-        let n = io::count(got, &lent[done..]);
-        if n == 0 {
-            return Contents {
-                whole: true,
-                bytes: done,
-            };
-        }
-        done += n;
     }
     Contents {
-        whole: ends(fd, path),
+        whole: ends(file, err, path),
         bytes: done,
     }
 }
 
-// Reads the file of this name to its end.
-pub fn read(path: &[u8], lent: &mut [u8]) -> Contents
+// Reads the file of this name to its end. A name that is no text, which std cannot open, is said to be none.
+pub fn read<R: Files, E: Write>(rt: &R, err: &mut E, path: &[u8], lent: &mut [u8]) -> Contents
     ensures { IsPrefixLen result.bytes lent.new }
 {
-    let fd = os::open_read(path);
-    if fd < 0 {
-        os::fail(path);
-        return Contents {
-            whole: false,
-            bytes: 0,
-        };
+    let Ok(name) = str::from_utf8(path) else {
+        say(err, path, ": the name of the file is no text");
+        return nothing();
+    };
+    match File::open(rt, name) {
+        Ok(mut file) => read_on(&mut file, err, path, lent),
+        Err(error) => {
+            fail(err, path, error);
+            nothing()
+        }
     }
-    let contents = read_on(fd, path, lent);
-    libc::close(fd);
-    contents
 }
 
 // ---- replacing
 
-// Writes the name of the new file, for the system to fill in what stands behind the dot, and tells its length.
+// Writes the name of the new file, with letters behind the dot that are to be filled in, and tells its length.
 fn new_name(path: &[u8], name: &mut [u8; 4096]) -> usize
     requires { length path.now ≤ 4088 }
     ensures typed { Typed name.old 0 (path.now ++ to_be_filled) result name.new }
@@ -90,29 +133,71 @@ fn new_name(path: &[u8], name: &mut [u8; 4096]) -> usize
     page::inside::append(name, next, b".XXXXXX")
 }
 
+// Writes the last digits of a number, so many of them.
+fn digits(name: &mut [u8], at: usize, count: usize, n: u32) -> usize
+    requires { at + count ≤ length name.old }
+    ensures { Typed name.old at (low_digits count n) result name.new }
+{
+    if count == 0 {
+        return at;
+    }
+    let next = digits(name, at, count - 1, n / 10);
+    page::inside::append_byte(name, next, b'0' + (n % 10) as u8)
+}
+
+// Fills six digits of a number in for the letters of a new file's name.
+fn fill_in(path: &str, name: &mut [u8], n: u32)
+    requires { IsNewName path.now name.old }
+    ensures named { name.new ≡ path.now ++ filled_in n }
+    ensures again { IsNewName path.now name.new }
+{
+    digits(name, path.len() + 1, 6, n);
+}
+
+// Makes a new file under a name with a number filled in, the first of a million that no file has.
+fn make<R: Files>(rt: &R, path: &str, name: &mut [u8]) -> io::Result<R::File>
+    requires { IsNewName path.now name.old }
+    ensures { IsFilledIn path.now name.new }
+{
+    let mut how = OpenOptions::new();
+    how.read(true).write(true).create_new(true).mode(0o600);
+    let mut n: u32 = 0;
+    fill_in(path, name, n);
+    // All names with a number below n are taken.
+    while n < 999999 {
+        match how.open(rt, str::from_utf8(name).unwrap()) {
+            Err(error) if error.kind() == ErrorKind::AlreadyExists => {
+                n += 1;
+                fill_in(path, name, n);
+            }
+            made => return made,
+        }
+    }
+    how.open(rt, str::from_utf8(name).unwrap())
+}
+
 // Writes all bytes to an open file, waits until they have reached its device, and closes it.
-fn fill(fd: i32, path: &[u8], bytes: &[u8]) -> bool {
-    if !io::write_all(fd, bytes) {
-        os::fail(path);
-        libc::close(fd);
+fn fill<F: Write + OpenFile + Drop, E: Write>(
+    mut file: F,
+    err: &mut E,
+    path: &str,
+    bytes: &[u8],
+) -> bool {
+    if let Err(error) = file.write_all(bytes) {
+        fail(err, path.as_bytes(), error);
         return false;
     }
-    if libc::fsync(fd) != 0 {
-        os::fail(path);
-        libc::close(fd);
-        return false;
-    }
-    if libc::close(fd) != 0 {
-        os::fail(path);
+    if let Err(error) = file.sync_all() {
+        fail(err, path.as_bytes(), error);
         return false;
     }
     true
 }
 
 // Gives a filled file the name of the one that it replaces.
-fn rename(name: &[u8], path: &[u8]) -> bool {
-    if os::rename(name, path) != 0 {
-        os::fail(path);
+fn rename<R: Files, E: Write>(rt: &R, err: &mut E, name: &str, path: &str) -> bool {
+    if let Err(error) = fs::rename(rt, name, path) {
+        fail(err, path.as_bytes(), error);
         return false;
     }
     true
@@ -120,7 +205,8 @@ fn rename(name: &[u8], path: &[u8]) -> bool {
 
 // How many bytes of a path name the folder that the file is in, with the slash behind it.
 fn folder(path: &[u8]) -> usize
-    ensures { IsPrefixLen result path.now }
+    ensures prefix_len { IsPrefixLen result path.now }
+    ensures behind_slash { 0 < result → slice_index path.now (result - 1) ≡ 47 }
 {
     let mut n = 0;
     let mut i = 0;
@@ -137,44 +223,59 @@ fn folder(path: &[u8]) -> usize
 }
 
 // Waits until the new name has reached the device too. Where a file system does not do that for folders, the name gets there by itself.
-fn settle(path: &[u8]) {
-    let n = folder(path);
-    let fd = if n == 0 {
-        os::open_read(b".")
+fn settle<R: Files>(rt: &R, path: &str) {
+    let n = folder(path.as_bytes());
+    let opened = if n == 0 {
+        File::open(rt, ".")
     } else {
-        os::open_read(&path[..n])
+        File::open(rt, &path[..n])
     };
-    if fd < 0 {
-        return;
+    if let Ok(folder) = opened {
+        let _ = folder.sync_all();
     }
-    libc::fsync(fd);
-    libc::close(fd);
 }
 
 // Makes a new file under a name that is to be filled in, with these bytes, and gives it the name of the one that it replaces. Where that is
 // not possible the new file is removed.
-fn put_beside(name: &mut [u8], path: &[u8], bytes: &[u8]) -> bool {
-    let fd = os::create_temp(name);
-    if fd < 0 {
-        os::fail(path);
-        return false;
-    }
-    if fill(fd, path, bytes) && rename(name, path) {
-        settle(path);
+fn put_beside<R: Files, E: Write>(
+    rt: &R,
+    err: &mut E,
+    name: &mut [u8],
+    path: &str,
+    bytes: &[u8],
+) -> bool
+    requires { IsNewName path.now name.old }
+    ensures { IsFilledIn path.now name.new }
+{
+    let file = match make(rt, path, name) {
+        Ok(file) => file,
+        Err(error) => {
+            fail(err, path.as_bytes(), error);
+            return false;
+        }
+    };
+    let name = str::from_utf8(name).unwrap();
+    if fill(file, err, path, bytes) && rename(rt, err, name, path) {
+        settle(rt, path);
         return true;
     }
-    os::unlink(name);
+    let _ = fs::remove_file(rt, name);
     false
 }
 
 // Puts these bytes in the place of the file of this name, or makes it: they go into a new file beside it, and only once that is whole and
-// on its device it gets the name. Says whether that was possible; where it was not, the file of this name is as it was.
-pub fn replace(path: &[u8], bytes: &[u8]) -> bool {
+// on its device it gets the name. Says whether that was possible; where it was not, the file of this name is as it was. A name that is no
+// text, under which std makes no file, is said to be none.
+pub fn replace<R: Files, E: Write>(rt: &R, err: &mut E, path: &[u8], bytes: &[u8]) -> bool {
     if 4088 < path.len() {
-        io::write_all(2, b"card: the name of the file is too long\n");
+        let _ = err.write_all(b"card: the name of the file is too long\n");
         return false;
     }
+    let Ok(text) = str::from_utf8(path) else {
+        say(err, path, ": the name of the file is no text");
+        return false;
+    };
     let mut name = [0u8; 4096];
     let n = new_name(path, &mut name);
-    put_beside(&mut name[..n], path, bytes)
+    put_beside(rt, err, &mut name[..n], text, bytes)
 }

@@ -3,15 +3,19 @@
 #![tactic(auto)]
 
 use lines_session::Ended;
+use std::io;
 
 // Answers every line of the input; says so on standard error where an answer could not be written.
-fn main() {
+fn main(rt: HostRuntime) -> io::Result<()> {
+    let mut from = rt.stdin();
+    let mut to = rt.stdout();
     let mut nodes = [0u64; 3010];
     let mut cells = [0u64; 256];
     let mut bytes = [0u8; 32768];
     index::clear(&mut nodes, &mut cells, &mut bytes);
-    let ended = lines_session::answer_input(&mut nodes, &mut cells, &mut bytes);
+    let ended = lines_session::answer_input(&mut from, &mut to, &mut nodes, &mut cells, &mut bytes);
     if let Ended::NotWritten = ended {
-        io::write_all(2, b"cherchivola: output failed\n");
+        eprintln!(rt; "cherchivola: output failed")?;
     }
+    Ok(())
 }

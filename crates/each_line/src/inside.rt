@@ -7,6 +7,8 @@ ghost use Rattle.line_input.specs.Input.{unless_empty};
 ghost use Rattle.lines.specs.Answered.{left};
 ghost use Rattle.each_line.specs.Parts.{left_by, PartDone};
 
+use std::io::Write;
+
 // How many bytes are kept of a line that has not ended, how many lines were answered, and whether the last write failed.
 #[derive(Clone, Copy)]
 pub struct Done {
@@ -16,7 +18,8 @@ pub struct Done {
 }
 
 // Answers one line, writes the answer, and says whether that was possible.
-fn answer(
+fn answer<W: Write>(
+    to: &mut W,
     nodes: &mut [u64],
     cells: &mut [u64],
     bytes: &mut [u8],
@@ -28,12 +31,13 @@ fn answer(
         ≡ left (memory nodes.old cells.old bytes.old) (read line.now) }
 {
     let n = lines::inside::answer(nodes, cells, bytes, line, out);
-    io::write_all(1, &out[..n])
+    to.write_all(&out[..n]).is_ok()
 }
 
 // Answers every line that ends in this part of the input, up to the first that cannot be written. So many bytes are kept of the line
 // that goes on in this part; of one that does not end in it they are kept again.
-pub fn answer_part(
+pub fn answer_part<W: Write>(
+    to: &mut W,
     nodes: &mut [u64],
     cells: &mut [u64],
     bytes: &mut [u8],
@@ -58,7 +62,7 @@ pub fn answer_part(
         held = taken.kept;
         if taken.ended {
             answered += 1;
-            if !answer(nodes, cells, bytes, &line[..held], out) {
+            if !answer(to, nodes, cells, bytes, &line[..held], out) {
                 return Done {
                     kept: 0,
                     answered,
@@ -77,7 +81,8 @@ pub fn answer_part(
 }
 
 // Answers what is kept when the input has ended: a line too, unless it is empty. Says whether the answer was written.
-pub fn answer_last(
+pub fn answer_last<W: Write>(
+    to: &mut W,
     nodes: &mut [u64],
     cells: &mut [u64],
     bytes: &mut [u8],
@@ -91,7 +96,7 @@ pub fn answer_last(
         (unless_empty (take kept line.now)) }
 {
     if 0 < kept {
-        return answer(nodes, cells, bytes, &line[..kept], out);
+        return answer(to, nodes, cells, bytes, &line[..kept], out);
     }
     true
 }

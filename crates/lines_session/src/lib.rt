@@ -1,5 +1,7 @@
-// A whole session: standard input read to its end, and every line of it answered.
+// A whole session: an input read to its end, and every line of it answered.
 #![tactic(auto)]
+
+use std::io::{Read, Write};
 
 // How the answers to an input end.
 #[derive(Clone, Copy)]
@@ -12,8 +14,14 @@ pub enum Ended {
     NotRead,
 }
 
-// Reads standard input part by part, and answers and writes each line of it. No input is so long that the count of parts ends it.
-pub fn answer_input(nodes: &mut [u64], cells: &mut [u64], bytes: &mut [u8]) -> Ended {
+// Reads an input part by part, and answers and writes each line of it. No input is so long that the count of parts ends it.
+pub fn answer_input<R: Read, W: Write>(
+    from: &mut R,
+    to: &mut W,
+    nodes: &mut [u64],
+    cells: &mut [u64],
+    bytes: &mut [u8],
+) -> Ended {
     let mut line = [0u8; 1201];
     let mut out = [0u8; 136182];
     let mut part = [0u8; 65536];
@@ -22,13 +30,14 @@ pub fn answer_input(nodes: &mut [u64], cells: &mut [u64], bytes: &mut [u8]) -> E
     let mut readable = true;
     // Of the line that has not ended the first `kept` bytes stand in `line`, 1,201 at most.
     while parts < u64::MAX {
-        let got = libc::read(0, &mut part);
-        readable = 0 <= got;
-        let n = io::count(got, &part);
+        let got = from.read(&mut part);
+        readable = got.is_ok();
+        let n = got.unwrap_or(0);
         if n == 0 {
             break;
         }
         let done = each_line::inside::answer_part(
+            to,
             nodes,
             cells,
             bytes,
@@ -43,7 +52,7 @@ pub fn answer_input(nodes: &mut [u64], cells: &mut [u64], bytes: &mut [u8]) -> E
         kept = done.kept;
         parts += 1;
     }
-    if !each_line::inside::answer_last(nodes, cells, bytes, &line, kept, &mut out) {
+    if !each_line::inside::answer_last(to, nodes, cells, bytes, &line, kept, &mut out) {
         return Ended::NotWritten;
     }
     if !readable {

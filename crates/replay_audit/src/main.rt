@@ -6,19 +6,29 @@ mod line;
 mod pace;
 
 use line::Lengths;
+use std::io;
+use std::io::{Read, Write};
 use tally::Tally;
 
 // Replays every line of the input on memory with room for 256 nodes and cells, and tells how many verdicts differ.
-fn main() {
+fn main(rt: HostRuntime) -> io::Result<()> {
+    let mut from = rt.stdin();
+    let mut to = rt.stdout();
     let mut nodes = [0u64; 12034];
     let mut cells = [0u64; 512];
     let mut bytes = [0u8; 65536];
-    let tally = replay_all(&mut nodes, &mut cells, &mut bytes);
-    tally::tell(tally, b"verdicts");
+    let tally = replay_all(&mut from, &mut to, &mut nodes, &mut cells, &mut bytes)?;
+    tally::tell(&mut to, tally, b"verdicts")
 }
 
 // Replays every line. No list is so long that the count of lines ends it.
-fn replay_all(nodes: &mut [u64], cells: &mut [u64], bytes: &mut [u8]) -> Tally {
+fn replay_all<R: Read, W: Write>(
+    from: &mut R,
+    to: &mut W,
+    nodes: &mut [u64],
+    cells: &mut [u64],
+    bytes: &mut [u8],
+) -> io::Result<Tally> {
     let mut tally = tally::none();
     let mut lines: u64 = 0;
     let mut lengths = Lengths {
@@ -29,7 +39,7 @@ fn replay_all(nodes: &mut [u64], cells: &mut [u64], bytes: &mut [u8]) -> Tally {
     // `lines` lines are replayed, and `lengths` is what the last new memory has.
     while lines < u64::MAX {
         let mut text = [0u8; 28];
-        if !tally::next(&mut text) {
+        if !tally::next(from, to, &mut text)? {
             break;
         }
         lines += 1;
@@ -38,9 +48,9 @@ fn replay_all(nodes: &mut [u64], cells: &mut [u64], bytes: &mut [u8]) -> Tally {
             wipe(nodes, cells, bytes);
             continue;
         }
-        tally = replay_line(nodes, cells, bytes, lengths, &text, tally);
+        tally = replay_line(to, nodes, cells, bytes, lengths, &text, tally)?;
     }
-    tally
+    Ok(tally)
 }
 
 // All of the memory becomes zero.
@@ -51,38 +61,42 @@ fn wipe(nodes: &mut [u64], cells: &mut [u64], bytes: &mut [u8]) {
 }
 
 // Replays one line but a new memory.
-fn replay_line(
+fn replay_line<W: Write>(
+    to: &mut W,
     nodes: &mut [u64],
     cells: &mut [u64],
     bytes: &mut [u8],
     lengths: Lengths,
     text: &[u8],
     tally: Tally,
-) -> Tally {
-    if obeyed(nodes, cells, bytes, lengths, text) {
-        return tally;
+) -> io::Result<Tally> {
+    if obeyed(to, nodes, cells, bytes, lengths, text)? {
+        return Ok(tally);
     }
-    tally::counted(tally, agrees(nodes, cells, bytes, lengths, text), text)
+    let agrees = agrees(nodes, cells, bytes, lengths, text);
+    tally::counted(to, tally, agrees, text)
 }
 
 // A line that asks for no verdict is carried out; says whether it was one.
-fn obeyed(
+fn obeyed<W: Write>(
+    to: &mut W,
     nodes: &mut [u64],
     cells: &mut [u64],
     bytes: &mut [u8],
     lengths: Lengths,
     text: &[u8],
-) -> bool {
+) -> io::Result<bool> {
     let operation = line::operation(text);
     if operation == b's' {
         line::change(nodes, cells, bytes, text);
-        return true;
+        return Ok(true);
     }
     if operation == b'a' {
-        say(line::measured(nodes, cells, bytes, lengths, text));
-        return true;
+        let number = line::measured(nodes, cells, bytes, lengths, text);
+        writeln!(to, "{number}")?;
+        return Ok(true);
     }
-    false
+    Ok(false)
 }
 
 // Whether the audit gives the recorded verdict: on other lent lengths, on one word or byte changed, or on the memory as it is.
@@ -104,10 +118,4 @@ fn agrees(
         return same;
     }
     line::agrees(nodes, cells, bytes, lengths, text)
-}
-
-// Prints a number on a line of its own.
-fn say(number: u64) {
-    io::print_decimal(1, number);
-    io::write_all(1, b"\n");
 }

@@ -7,43 +7,52 @@ mod calls;
 mod line;
 mod rooms;
 
+use std::io;
+use std::io::{Read, Write};
 use tally::Tally;
 
 // Replays every line of the input: on memory with room for 256 nodes and cells, a card of 140 blocks, and as much room for what is written.
-fn main() {
+fn main(rt: HostRuntime) -> io::Result<()> {
+    let mut from = rt.stdin();
+    let mut to = rt.stdout();
     let mut nodes = [0u64; 12034];
     let mut cells = [0u64; 512];
     let mut bytes = [0u8; 65536];
     let mut card = [0u8; 71680];
     let mut out = [0u8; 71680];
-    let tally = replay_all(&mut nodes, &mut cells, &mut bytes, &mut card, &mut out);
-    tally::tell(tally, b"calls");
+    let tally = replay_all(
+        &mut from, &mut to, &mut nodes, &mut cells, &mut bytes, &mut card, &mut out,
+    )?;
+    tally::tell(&mut to, tally, b"calls")
 }
 
 // Replays every line. No list is so long that the count of lines ends it.
-fn replay_all(
+fn replay_all<R: Read, W: Write>(
+    from: &mut R,
+    to: &mut W,
     nodes: &mut [u64],
     cells: &mut [u64],
     bytes: &mut [u8],
     card: &mut [u8],
     out: &mut [u8],
-) -> Tally {
+) -> io::Result<Tally> {
     let mut tally = tally::none();
     let mut lines: u64 = 0;
     // `lines` lines are carried out, and every call among them is counted.
     while lines < u64::MAX {
         let mut text = [0u8; 156];
-        if !tally::next(&mut text) {
+        if !tally::next(from, to, &mut text)? {
             break;
         }
         lines += 1;
-        tally = replay_line(nodes, cells, bytes, card, out, &text, tally);
+        tally = replay_line(to, nodes, cells, bytes, card, out, &text, tally)?;
     }
-    tally
+    Ok(tally)
 }
 
 // Carries one line out; a call is counted.
-fn replay_line(
+fn replay_line<W: Write>(
+    to: &mut W,
     nodes: &mut [u64],
     cells: &mut [u64],
     bytes: &mut [u8],
@@ -51,15 +60,12 @@ fn replay_line(
     out: &mut [u8],
     text: &[u8],
     tally: Tally,
-) -> Tally {
+) -> io::Result<Tally> {
     if rooms::written(nodes, cells, bytes, card, out, text) {
-        return tally;
+        return Ok(tally);
     }
-    tally::counted(
-        tally,
-        replay_call(nodes, cells, bytes, card, out, text),
-        text,
-    )
+    let agrees = replay_call(nodes, cells, bytes, card, out, text);
+    tally::counted(to, tally, agrees, text)
 }
 
 // Makes one call on as much of the memory as the line lends; whether it agrees.

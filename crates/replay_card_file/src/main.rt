@@ -2,13 +2,16 @@
 // it cannot.
 #![tactic(auto)]
 
-fn main() {
-    card_commands::save(b"labels.card");
-    card_commands::list(b"labels.card");
-    card_commands::list(b"cut.card");
-    card_commands::list(b"damaged.card");
-    card_commands::list(b"unsorted.card");
-    card_commands::list(b"crowded.card");
-    card_commands::list(b"missing.card");
-    card_commands::save(b"missing/labels.card");
+fn main(rt: HostRuntime) {
+    let mut from = rt.stdin();
+    let mut to = rt.stdout();
+    let mut err = rt.stderr();
+    card_commands::save(&rt, &mut from, &mut to, &mut err, b"labels.card");
+    card_commands::list(&rt, &mut to, &mut err, b"labels.card");
+    card_commands::list(&rt, &mut to, &mut err, b"cut.card");
+    card_commands::list(&rt, &mut to, &mut err, b"damaged.card");
+    card_commands::list(&rt, &mut to, &mut err, b"unsorted.card");
+    card_commands::list(&rt, &mut to, &mut err, b"crowded.card");
+    card_commands::list(&rt, &mut to, &mut err, b"missing.card");
+    card_commands::save(&rt, &mut from, &mut to, &mut err, b"missing/labels.card");
 }

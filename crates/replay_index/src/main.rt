@@ -5,38 +5,49 @@
 mod line;
 
 use memory_layout::{CELL_BYTES, CELL_WORDS, HEADER_WORDS, NODE_WORDS};
+use std::io;
+use std::io::{Read, Write};
 use tally::Tally;
 
 // Replays every line of the input on memory with room for 256 nodes and cells, and tells how many differ.
-fn main() {
+fn main(rt: HostRuntime) -> io::Result<()> {
+    let mut from = rt.stdin();
+    let mut to = rt.stdout();
     let mut nodes = [0u64; 12034];
     let mut cells = [0u64; 512];
     let mut bytes = [0u8; 65536];
-    let tally = replay_all(&mut nodes, &mut cells, &mut bytes);
-    tally::tell(tally, b"lines");
+    let tally = replay_all(&mut from, &mut to, &mut nodes, &mut cells, &mut bytes)?;
+    tally::tell(&mut to, tally, b"lines")
 }
 
 // Replays every line. No list is so long that the count of lines ends it.
-fn replay_all(nodes: &mut [u64], cells: &mut [u64], bytes: &mut [u8]) -> Tally {
+fn replay_all<R: Read, W: Write>(
+    from: &mut R,
+    to: &mut W,
+    nodes: &mut [u64],
+    cells: &mut [u64],
+    bytes: &mut [u8],
+) -> io::Result<Tally> {
     let mut tally = tally::none();
     let mut n: usize = 0;
     let mut c: usize = 0;
     // The last new memory has n nodes and c cells, and every line so far is counted.
     while tally.answers < u64::MAX {
         let mut text = [0u8; 570];
-        if !tally::next(&mut text) {
+        if !tally::next(from, to, &mut text)? {
             break;
         }
         if line::call(&text) == b'm' {
             n = line::nodes_of(&text);
             c = line::cells_of(&text);
             wipe(nodes, cells, bytes);
-            tally = tally::counted(tally, true, &text);
+            tally = tally::counted(to, tally, true, &text)?;
             continue;
         }
-        tally = tally::counted(tally, replay_call(nodes, cells, bytes, n, c, &text), &text);
+        let agrees = replay_call(nodes, cells, bytes, n, c, &text);
+        tally = tally::counted(to, tally, agrees, &text)?;
     }
-    tally
+    Ok(tally)
 }
 
 // Makes all of the memory zero.

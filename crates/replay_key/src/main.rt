@@ -7,15 +7,19 @@ mod asked;
 mod held;
 mod record;
 
+use std::io;
+
 // Replays every record. No list is so long that the count of cases ends it.
-fn main() {
+fn main(rt: HostRuntime) -> io::Result<()> {
+    let mut from = rt.stdin();
+    let mut to = rt.stdout();
     let mut tally = tally::none();
     while tally.answers < u64::MAX {
         let mut rec = [0u8; 64];
-        if !tally::next(&mut rec) {
+        if !tally::next(&mut from, &mut to, &mut rec)? {
             break;
         }
-        tally = tally::counted(tally, record::agrees(&rec), b"\n");
+        tally = tally::counted(&mut to, tally, record::agrees(&rec), b"\n")?;
     }
-    tally::tell(tally, b"cases");
+    tally::tell(&mut to, tally, b"cases")
 }

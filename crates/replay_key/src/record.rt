@@ -1,6 +1,6 @@
 // One record: a call, its keys and arguments, and the answer that the Rust gave.
 ghost use Rattle.std.specs.Prelude.{◌+◌, ◌^◌, ◌<◌};
-ghost use Rattle.io.specs.Counts.{IsPrefixLen};
+ghost use Rattle.replay_key.specs.Counts.{IsPrefixLen};
 
 use crate::answers::{Said, answer, reach};
 use crate::asked;

@@ -1,4 +1,0 @@
-pub mod Fronts
-pub mod Handed
-pub mod Making
-pub mod Passes
