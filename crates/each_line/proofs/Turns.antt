@@ -1,6 +1,10 @@
 -- A part of the input gone through turn by turn: a line ends and is answered, or the part does. Assumes nothing.
 use Prim.Native.Nat.{ℕ, zero, suc, ◌+◌, ◌-◌, ◌≤◌, ◌<◌}
 use mathlib.Core.Path.{◌≡◌, refl, ap, ap₂, sym, ◌∙◌}
+use Rattle.std.proofs.Common.{subst}
+use Rattle.std.proofs.KnownBytes.{Appends-trans}
+use Rattle.std.specs.Prelude.{Option}
+use Rattle.std.specs.Io.KnownBytes.{Appends}
 use mathlib.Core.Bool.{Bool, true, false, cond}
 use mathlib.Core.List.{List, [], ◌∷◌, ◌++◌, append-nil}
 use native.Mathlib.Omega.{arith}
@@ -15,9 +19,11 @@ use Rattle.text.specs.Split.{up_to}
 use Rattle.text.specs.Command.{read}
 use Rattle.line_input.specs.declared.inside.Taken.{Taken}
 use Rattle.line_input.specs.Input.{taken_from, taken_over, lines_in, held_after, unless_empty}
-use Rattle.lines.specs.Answered.{left}
+use Rattle.lines.specs.Answered.{left, printed}
 use Rattle.lines_parts.proofs.Inputs.{left-append}
 use Rattle.each_line.specs.Parts.{left_by, lines_here, held_here, PartDone}
+use Rattle.each_line.specs.Written.{printed_by}
+use Rattle.each_line.proofs.Written.{printed-more}
 
 -- ---- lines carried out
 
@@ -166,6 +172,14 @@ module _ {m : Memory} {held : List ℕ} (part : List ℕ) (from answered : ℕ) 
             holds = g.holds ∙ rw (k, ← u, turns) (held_on line h (drop from part) fits e' f' (length part - answered) d);
             counted = omega (arith, l.2);
           }
+
+      -- and what it prints is written behind what the lines before it printed
+      pub printed-ended : (x y z : Option (List ℕ)) → Appends x y (printed_by m (take answered (lines_here held part)))
+          → Appends y z (printed now (read (take t.kept line1))) → Appends x z (printed_by m (take (answered + 1) (lines_here held part)))
+      printed-ended x y z p q =
+          let e = printed-more m (lines_here held part) answered _ _ this in
+          let f = ap (λ (w : Memory). printed_by m (take answered (lines_here held part)) ++ printed w (read (take t.kept line1))) g.leaves in
+          subst (Appends x z) (f ∙ sym e) (Appends-trans x y z _ _ p q)
 
       pub part-stopped : PartDone m held part (answered + 1) true after (take 0 line1)
       part-stopped =

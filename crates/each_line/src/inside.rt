@@ -1,11 +1,13 @@
 // The lines of an input answered one after another. Where a write fails nothing more is read and answered. What a caller must lend
 // stands in `requires`: bytes enough for the longest answer, and for as much of a line as is kept.
-ghost use Rattle.std.specs.Prelude.{◌≡◌, ◌≤◌, length, take};
+ghost use Rattle.std.specs.Prelude.{true, false, ◌≡◌, ◌≤◌, length, take};
+ghost use Rattle.std.specs.Io.KnownBytes.{Appends};
 ghost use Rattle.arena.specs.Memory.{memory};
 ghost use Rattle.text.specs.Command.{read};
 ghost use Rattle.line_input.specs.Input.{unless_empty};
-ghost use Rattle.lines.specs.Answered.{left};
-ghost use Rattle.each_line.specs.Parts.{left_by, PartDone};
+ghost use Rattle.lines.specs.Answered.{left, printed};
+ghost use Rattle.each_line.specs.Parts.{left_by, lines_here, PartDone};
+ghost use Rattle.each_line.specs.Written.{printed_by};
 
 use std::io::Write;
 
@@ -27,8 +29,10 @@ fn answer<W: Write>(
     out: &mut [u8],
 ) -> bool
     requires { 136182 ≤ length out.old }
-    ensures { memory nodes.new cells.new bytes.new
+    ensures leaves { memory nodes.new cells.new bytes.new
         ≡ left (memory nodes.old cells.old bytes.old) (read line.now) }
+    ensures written { result ≡ true → Appends (W.contents to.old) (W.contents to.new)
+        (printed (memory nodes.old cells.old bytes.old) (read line.now)) }
 {
     let n = lines::inside::answer(nodes, cells, bytes, line, out);
     to.write_all(&out[..n]).is_ok()
@@ -51,6 +55,9 @@ pub fn answer_part<W: Write>(
     ensures part_done { PartDone (memory nodes.old cells.old bytes.old)
         (take kept line.old) part.now result.answered result.failed
         (memory nodes.new cells.new bytes.new) (take result.kept line.new) }
+    ensures written { result.failed ≡ false → Appends (W.contents to.old) (W.contents to.new)
+        (printed_by (memory nodes.old cells.old bytes.old)
+        (take result.answered (lines_here (take kept line.old) part.now))) }
 {
     let mut from = 0;
     let mut held = kept;
@@ -91,9 +98,12 @@ pub fn answer_last<W: Write>(
     out: &mut [u8],
 ) -> bool
     requires { (kept ≤ length line.now) × (136182 ≤ length out.old) }
-    ensures { memory nodes.new cells.new bytes.new
+    ensures leaves { memory nodes.new cells.new bytes.new
         ≡ left_by (memory nodes.old cells.old bytes.old)
         (unless_empty (take kept line.now)) }
+    ensures written { result ≡ true → Appends (W.contents to.old) (W.contents to.new)
+        (printed_by (memory nodes.old cells.old bytes.old)
+        (unless_empty (take kept line.now))) }
 {
     if 0 < kept {
         return answer(to, nodes, cells, bytes, &line[..kept], out);
