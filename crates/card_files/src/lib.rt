@@ -2,7 +2,8 @@
 // programs make standard error. What cannot be said there is not said.
 #![tactic(auto)]
 
-ghost use Rattle.std.specs.Prelude.{◌≡◌, ◌+◌, ◌-◌, ◌++◌, ◌<◌, ◌≤◌, length, slice_index};
+ghost use Rattle.std.specs.Prelude.{true, false, ◌≡◌, ◌+◌, ◌-◌, [], ◌++◌, ◌<◌, ◌≤◌, length, slice_index, take};
+ghost use Rattle.std.specs.Io.KnownBytes.{Consumes, IsAtEnd};
 ghost use Rattle.page.specs.Page.{Typed};
 ghost use Rattle.card_files.specs.Counts.{IsPrefixLen};
 ghost use Rattle.card_files.specs.Names.{filled_in, low_digits, to_be_filled, IsFilledIn, IsNewName};
@@ -22,7 +23,7 @@ pub struct Contents {
 
 // A file that was not read.
 fn nothing() -> Contents
-    ensures { result.bytes ≡ 0 }
+    ensures { (result.bytes ≡ 0) × (result.whole ≡ false) }
 {
     Contents {
         whole: false,
@@ -62,7 +63,9 @@ fn fail<E: Write>(err: &mut E, path: &[u8], error: io::Error) {
 // ---- reading
 
 // Whether there is nothing more to be read from a file of which as much was read as was lent.
-fn ends<F: Read, E: Write>(file: &mut F, err: &mut E, path: &[u8]) -> bool {
+fn ends<F: Read, E: Write>(file: &mut F, err: &mut E, path: &[u8]) -> bool
+    ensures { result ≡ true → Consumes (F.remaining file.old) (F.remaining file.new) [] × IsAtEnd (F.remaining file.new) }
+{
     let mut more = [0u8; 1];
     match file.read(&mut more) {
         Ok(0) => true,
@@ -79,7 +82,9 @@ fn ends<F: Read, E: Write>(file: &mut F, err: &mut E, path: &[u8]) -> bool {
 
 // Reads an open file to its end, as far as the lent bytes reach.
 fn read_on<F: Read, E: Write>(file: &mut F, err: &mut E, path: &[u8], lent: &mut [u8]) -> Contents
-    ensures { IsPrefixLen result.bytes lent.new }
+    ensures prefix_len { IsPrefixLen result.bytes lent.new }
+    ensures whole { result.whole ≡ true → Consumes (F.remaining file.old) (F.remaining file.new) (take result.bytes lent.new) }
+    ensures end { result.whole ≡ true → IsAtEnd (F.remaining file.new) }
 {
     let mut done = 0;
     // The first `done` bytes of the file stand at the front of the lent ones.
