@@ -178,7 +178,8 @@ module _ {m : Memory} {held : List ℕ} (part : List ℕ) (from answered : ℕ) 
           → Appends y z (printed now (read (take t.kept line1))) → Appends x z (printed_by m (take (answered + 1) (lines_here held part)))
       printed-ended x y z p q =
           let e = printed-more m (lines_here held part) answered _ _ this in
-          let f = ap (λ (w : Memory). printed_by m (take answered (lines_here held part)) ++ printed w (read (take t.kept line1))) g.leaves in
+          let f =
+          ap (λ (w : Memory). printed_by m (take answered (lines_here held part)) ++ printed w (read (take t.kept line1))) g.leaves in
           subst (Appends x z) (f ∙ sym e) (Appends-trans x y z _ _ p q)
 
       pub part-stopped : PartDone m held part (answered + 1) true after (take 0 line1)

@@ -1,5 +1,7 @@
 -- What lines print is written, one line behind the other. Assumes nothing.
-use Rattle.std.proofs.Common.{◌≡◌, ℕ, zero, suc, ◌+◌, ◌-◌, ◌<◌, ◌≤◌, Bool, true, false, List, [], ◌∷◌, ◌++◌, Ok, Err, length, take, drop, refl, sym, ap, ◌∙◌, subst, arith, append_assoc, append-nil, take-append-drop, length-append, length-drop}
+use Rattle.std.proofs.Common.{◌≡◌, ℕ, zero, suc, ◌+◌, ◌-◌, ◌<◌, ◌≤◌, Bool, true, false, List, [], ◌∷◌, ◌++◌, Ok, Err, length, take}
+use Rattle.std.proofs.Common.{drop, refl, sym, ap, ◌∙◌, subst, arith, append_assoc, append-nil, take-append-drop, length-append}
+use Rattle.std.proofs.Common.{length-drop}
 use Rattle.std.proofs.KnownBytes.{Appends-nil}
 use Rattle.std.specs.Prelude.{Option, Result, OnOk, is_ok}
 use Rattle.std.specs.Io.KnownBytes.{Appends}
@@ -13,7 +15,8 @@ use Rattle.each_line.specs.Parts.{left_by}
 use Rattle.each_line.specs.Written.{printed_by}
 
 -- the answer stands at the front of the lent bytes
-pub front-printed : {m after : Memory} {w : Command} {out written : List ℕ} {r : ℕ} → Answered m w out r after written → take r written ≡ printed m w
+pub front-printed : {m after : Memory} {w : Command} {out written : List ℕ} {r : ℕ} → Answered m w out r after written
+    → take r written ≡ printed m w
 unfolding put_part
 front-printed {m} {after} {w} {out} {written} {r} a =
     let t = printed m w in
@@ -62,7 +65,8 @@ unfolding printed_by
 none_printed m ls x = Appends-nil x
 
 -- what is kept when the input has ended
-pub last_empty : (m : Memory) (line : List ℕ) (k : ℕ) (x : Option (List ℕ)) → k ≤ 0 → Appends x x (printed_by m (unless_empty (take k line)))
+pub last_empty : (m : Memory) (line : List ℕ) (k : ℕ) (x : Option (List ℕ)) → k ≤ 0
+    → Appends x x (printed_by m (unless_empty (take k line)))
 unfolding printed_by unless_empty
 last_empty m line k x z =
     let e : k ≡ 0 = omega arith in

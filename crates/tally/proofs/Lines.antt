@@ -1,5 +1,6 @@
 -- What was read up to a place, and what is told of an input that ends within a line. Assumes nothing.
-use Rattle.std.proofs.Common.{◌≡◌, ◌≢◌, ℕ, zero, suc, ◌+◌, ◌-◌, ◌<◌, ◌≤◌, List, [], ◌∷◌, ◌++◌, IfSome, length, take, slice_range, arith, sym, ap, ◌∙◌, subst, refl, length-take-le, drop_at}
+use Rattle.std.proofs.Common.{◌≡◌, ◌≢◌, ℕ, zero, suc, ◌+◌, ◌-◌, ◌<◌, ◌≤◌, List, [], ◌∷◌, ◌++◌, IfSome, length, take, slice_range}
+use Rattle.std.proofs.Common.{arith, sym, ap, ◌∙◌, subst, refl, length-take-le, drop_at}
 use Rattle.std.proofs.lemmas.Slice.{take-put_mid_below}
 use Rattle.std.proofs.KnownBytes.{Consumes-trans, Consumes-whole, Appends-nil}
 use Rattle.std.specs.Io.KnownBytes.{Appends, Consumes, IsAtEnd}
@@ -18,7 +19,8 @@ slice_range-put_mid : (a k n : ℕ) (xs ys : List ℕ) → a ≤ length xs → n
 slice_range-put_mid a k n xs ys within fits =
     let same : (a + n) - a ≡ n = omega arith in
     let after = post_of a k xs in
-    ap (take ((a + n) - a)) (drop_at (take a xs) (ys ++ after) a (length-take-le a xs within)) ∙ ap (λ m. take m (ys ++ after)) same ∙ take-append-le n ys after fits
+    ap (take ((a + n) - a)) (drop_at (take a xs) (ys ++ after) a (length-take-le a xs within))
+    ∙ ap (λ m. take m (ys ++ after)) same ∙ take-append-le n ys after fits
 
 -- a read of n bytes behind the first `done`
 pub read_more : (a b c : Option (List ℕ)) (done k n : ℕ) (text got : List ℕ) → done ≤ length text → n ≤ length got
@@ -40,7 +42,8 @@ shorter a b n text h p q =
 pub none_left : (a b x : Option (List ℕ)) (n : ℕ) (text : List ℕ) → n ≡ 0 → Consumes a b (take n text) → IsAtEnd b
     → IfSome a (λ left. Appends x x (ending left))
 none_left a b x n text h p q =
-    Consumes-whole a b (take n text) (λ left. Appends x x (ending left)) p q (subst (λ m. Appends x x (ending (take m text))) (sym h) (Appends-nil x))
+    Consumes-whole a b (take n text) (λ left. Appends x x (ending left)) p q
+    (subst (λ m. Appends x x (ending (take m text))) (sym h) (Appends-nil x))
 
 -- a part of a line was left, and it is told
 some_told : (n : ℕ) (text : List ℕ) → n < length text → n ≢ 0 → ending (take n text) ≡ cut_short
@@ -51,4 +54,5 @@ some_told (suc n) (x ∷ text) h k = refl
 pub part_left : (a b x y : Option (List ℕ)) (n : ℕ) (text : List ℕ) → n < length text → n ≢ 0 → Consumes a b (take n text) → IsAtEnd b
     → Appends x y cut_short → IfSome a (λ left. Appends x y (ending left))
 part_left a b x y n text h k p q told =
-    Consumes-whole a b (take n text) (λ left. Appends x y (ending left)) p q (subst (λ bs. Appends x y bs) (sym (some_told n text h k)) told)
+    Consumes-whole a b (take n text) (λ left. Appends x y (ending left)) p q
+    (subst (λ bs. Appends x y bs) (sym (some_told n text h k)) told)

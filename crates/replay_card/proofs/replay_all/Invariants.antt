@@ -3,7 +3,9 @@ use Rattle.std.proofs.Common.{◌≡◌, ◌-◌, length}
 use Rattle.replay_card.proofs.replay_all.Given as goal
 
 abbrev pub invariant-loop-lines : goal.invariant-loop-lines
-invariant-loop-lines g l = (length l.nodes ≡ length l.initial.nodes) × (length l.cells ≡ length l.initial.cells) × (length l.bytes ≡ length l.initial.bytes) × (length l.card ≡ length l.initial.card) × (length l.out ≡ length l.initial.out)
+invariant-loop-lines g l =
+    (length l.nodes ≡ length l.initial.nodes) × (length l.cells ≡ length l.initial.cells) × (length l.bytes ≡ length l.initial.bytes)
+    × (length l.card ≡ length l.initial.card) × (length l.out ≡ length l.initial.out)
 
 abbrev pub decreases-loop-lines : goal.decreases-loop-lines
 decreases-loop-lines g l = 18446744073709551615 - l.lines

@@ -14,7 +14,8 @@ invariant-loop-from g l =
     × Going (memory l.initial.nodes l.initial.cells l.initial.bytes) (take l.kept l.initial.line) l.part l.from l.answered
     (memory l.nodes l.cells l.bytes) l.line l.held
     × Appends (g.W.Write.contents l.initial.to) (g.W.Write.contents l.to)
-    (printed_by (memory l.initial.nodes l.initial.cells l.initial.bytes) (take l.answered (lines_here (take l.kept l.initial.line) l.part)))
+    (printed_by (memory l.initial.nodes l.initial.cells l.initial.bytes)
+    (take l.answered (lines_here (take l.kept l.initial.line) l.part)))
 
 abbrev pub decreases-loop-from : goal.decreases-loop-from
 decreases-loop-from g l = length l.part - l.from
