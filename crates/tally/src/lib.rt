@@ -2,7 +2,7 @@
 // A read or a write that fails is handed on as it came.
 #![tactic(auto)]
 
-ghost use Rattle.std.specs.Prelude.{true, false, ◌≡◌, ◌+◌, ◌<◌, ◌≤◌, cond, length, min, take, IfOk, IfSome, OnOk};
+ghost use Rattle.std.specs.Prelude.{true, false, ◌≡◌, ◌+◌, ◌<◌, ◌≤◌, cond, length, min, take, IfOk, IfSome, IsOk, OnOk};
 ghost use Rattle.std.specs.Io.KnownBytes.{Appends, Consumes, IsAtEnd, Keeps};
 ghost use Rattle.tally.specs.Printed.{ending, if_differing, told};
 
@@ -75,6 +75,7 @@ pub fn counted<W: Write>(to: &mut W, tally: Tally, agrees: bool, text: &[u8]) ->
     ensures mismatches_value { IfOk result (λ r.
         r.mismatches ≡ cond agrees tally.mismatches (min (tally.mismatches + 1) 18446744073709551615)) }
     ensures printed { OnOk result (Appends (W.contents to.old) (W.contents to.new) (if_differing agrees tally.answers text.now)) }
+    ensures no_error { agrees ≡ true → IsOk result }
 {
     let answers = one_more(tally.answers);
     if agrees {
