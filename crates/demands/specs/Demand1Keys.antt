@@ -246,9 +246,12 @@ module _ (k : Key) where
   -- `suffix`: as the plain call, of the key's own slice,
   pub held-suffixes : (r : Part) → IsSuffix k.bytes k.ikey shifts k.suffix_start r
       → PartAsRuled k.bytes k.ikey shifts k.suffix_start k.suffix_start (drop k.suffix_start bytes) r
-  held-suffixes r e = suffix-parts k.bytes k.ikey shifts k.suffix_start r e
+  unfolding suffix_said suffix_from listed_above
+  held-suffixes r e =
+      record { ruled = subst (AsRuled (rules []) (drop k.suffix_start bytes) []) (sym e.0) (as-ruled tt); lies = e.1 }
 
   -- and so `full_data`.
   pub held-data : (r : Part) → IsData k.bytes k.ikey shifts k.suffix_start r
       → PartAsRuled k.bytes k.ikey shifts k.suffix_start 0 bytes r
-  held-data r e = data-parts k.bytes k.ikey shifts k.suffix_start r e
+  unfolding data_said data_from listed_above
+  held-data r e = record { ruled = subst (AsRuled (rules []) bytes []) (sym e.0) (as-ruled tt); lies = e.1 }
