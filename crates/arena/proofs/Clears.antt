@@ -6,12 +6,12 @@ use Prim.Native.Nat.{ℕ, ◌+◌, ◌*◌, ◌≤◌, ◌<◌}
 use native.Mathlib.Omega.{arith}
 use borrow.Author.Tests.{eq-eqb}
 use lib.ListN.{length, length-replicate, get_or-replicate}
+use Rattle.std.specs.Prelude.{Result, Ok, Err}
 use Rattle.refusal.specs.Answer.{Answer, accepted, refused}
 use Rattle.refusal.specs.declared.Refusal.{Refusal}
 use Rattle.refusal.specs.Refusals.{number_of}
 use Rattle.refusal.proofs.Laws.{number-pos}
-use Rattle.arena.specs.declared.Measured.{Measured}
-use Rattle.arena.specs.declared.Measured.TheVariants as M
+use Rattle.arena.specs.declared.Fit.{Fit}
 use Rattle.lent_words.specs.Parts.{put_part, zeros}
 use Rattle.lent_nodes.specs.Layout.{node_start, cell_start, node_at, root_of, leaf_at, leaf_words, put_leaf, free_words, WholeLeaf}
 use Rattle.lent_nodes.specs.Free.{free_nodes, free_cells}
@@ -22,18 +22,18 @@ use Rattle.lent_nodes.proofs.Frees.{all_pass}
 use Rattle.lent_nodes.proofs.Counts.{nodes-fewer}
 use Rattle.arena.proofs.Measures.{right-means, right-if, fit-means}
 
-module _ (nodes cells bytes : List ℕ) {r : Measured} (e : said_measured r ≡ measured (length nodes) (length cells) (length bytes)) where
-  fits : (n c : ℕ) → r ≡ M.Fit n c → right_lengths (length nodes) (length cells) (length bytes) ≡ true
-  fits n c f = right-if _ _ _ n c (fit-means _ _ _ e f)
+module _ (nodes cells bytes : List ℕ) {r : Result Fit Refusal} (e : said_measured r ≡ measured (length nodes) (length cells) (length bytes)) where
+  fits : {fit : Fit} → r ≡ Ok fit → right_lengths (length nodes) (length cells) (length bytes) ≡ true
+  fits {fit} f = right-if _ _ _ fit.nodes fit.cells (fit-means _ _ _ e f)
 
   -- there is a node 0, before and after the zeros are written
-  pub one-node : (n1 : List ℕ) {n c : ℕ} → r ≡ M.Fit n c → n1 ≡ put_part nodes 0 (zeros (length nodes)) → 49 ≤ length n1
+  pub one-node : (n1 : List ℕ) {fit : Fit} → r ≡ Ok fit → n1 ≡ put_part nodes 0 (zeros (length nodes)) → 49 ≤ length n1
   one-node n1 f en =
-      let w = right-means _ _ _ (fits _ _ f) in
+      let w = right-means _ _ _ (fits f) in
       let l : length n1 ≡ length nodes = ap length (en ∙ zero-all nodes) ∙ length-replicate (length nodes) 0 in
       omega (arith, w.n-low, w.nodes-whole)
 
-  pub clear-refused : {why : Refusal} → r ≡ M.Refused why
+  pub clear-refused : {why : Refusal} → r ≡ Err why
       → did (refused why []) (memory nodes cells bytes) ≡ cleared (memory nodes cells bytes)
   unfolding measured cleared
   clear-refused {why} f = by (right_lengths (length nodes) (length cells) (length bytes)) (ap said_measured (sym f) ∙ e)
@@ -46,12 +46,12 @@ module _ (nodes cells bytes : List ℕ) {r : Measured} (e : said_measured r ≡ 
       by true q = absurd (let z : number_of why ≡ 0 = ap (λ (a : Answer). a.number) q in omega (arith, number-pos why))
       by false q = ap (λ (a : Answer). did a (memory nodes cells bytes)) q
 
-  pub clear-done : {n c : ℕ} {n1 n2 c1 b1 : List ℕ} → r ≡ M.Fit n c → n1 ≡ put_part nodes 0 (zeros (length nodes))
+  pub clear-done : {fit : Fit} {n1 n2 c1 b1 : List ℕ} → r ≡ Ok fit → n1 ≡ put_part nodes 0 (zeros (length nodes))
       → c1 ≡ put_part cells 0 (zeros (length cells)) → b1 ≡ put_part bytes 0 (zeros (length bytes)) → n2 ≡ put_leaf n1 0 empty_leaf
       → did (accepted []) (memory n2 c1 b1) ≡ cleared (memory nodes cells bytes)
   unfolding cleared
   clear-done f en ec eb el =
-      let t = fits _ _ f in
+      let t = fits f in
       let w = right-means _ _ _ t in
       rw (
         t,

@@ -7,10 +7,11 @@ use native.Mathlib.Nat.{mul-div_cancel}
 use native.Mathlib.Omega.{arith}
 use borrow.Author.Tests.{leb-true, eqb-true, le-leb, eq-eqb}
 use lib.ListN.{get_or}
+use Rattle.std.specs.Prelude.{Result, Ok}
 use Rattle.refusal.specs.Answer.{Answer, accepted, refused}
+use Rattle.refusal.specs.declared.Refusal.{Refusal}
 use Rattle.refusal.specs.declared.Refusal.TheVariants.{Memory}
-use Rattle.arena.specs.declared.Measured.{Measured}
-use Rattle.arena.specs.declared.Measured.TheVariants as M
+use Rattle.arena.specs.declared.Fit.{Fit}
 use Rattle.lent_nodes.specs.Layout.{node_start, cell_start, key_start}
 use Rattle.arena.specs.Memory.{said_measured, node_count, cell_count, right_lengths, measured}
 
@@ -73,35 +74,35 @@ right-if nodes cells bytes n c r =
     let (en, ec) = counts-follow r in right-counts nodes cells bytes (rw (en, ec) r)
 
 -- what a caller knows once `lengths` has told N and C
-module _ (nodes cells bytes : ℕ) {r : Measured} (e : said_measured r ≡ measured nodes cells bytes) where
-  pub fit-means : {n c : ℕ} → r ≡ M.Fit n c → Right nodes cells bytes n c
+module _ (nodes cells bytes : ℕ) {r : Result Fit Refusal} (e : said_measured r ≡ measured nodes cells bytes) where
+  pub fit-means : {fit : Fit} → r ≡ Ok fit → Right nodes cells bytes fit.nodes fit.cells
   unfolding measured
-  fit-means {n} {c} f = by (right_lengths nodes cells bytes) refl (ap said_measured (sym f) ∙ e)
+  fit-means {fit} f = by (right_lengths nodes cells bytes) refl (ap said_measured (sym f) ∙ e)
     where
       by : (b : Bool) → right_lengths nodes cells bytes ≡ b
-          → accepted (n ∷ c ∷ []) ≡ cond b (accepted (node_count nodes ∷ cell_count cells ∷ [])) (record { number = 10; values = [] })
-          → Right nodes cells bytes n c
+          → accepted (fit.nodes ∷ fit.cells ∷ []) ≡ cond b (accepted (node_count nodes ∷ cell_count cells ∷ [])) (record { number = 10; values = [] })
+          → Right nodes cells bytes fit.nodes fit.cells
       by true t q =
-          let en : n ≡ node_count nodes = ap (λ (a : Answer). get_or a.values 0 0) q in
-          let ec : c ≡ cell_count cells = ap (λ (a : Answer). get_or a.values 1 0) q in
+          let en : fit.nodes ≡ node_count nodes = ap (λ (a : Answer). get_or a.values 0 0) q in
+          let ec : fit.cells ≡ cell_count cells = ap (λ (a : Answer). get_or a.values 1 0) q in
           rw (en, ec) (right-means nodes cells bytes t)
       by false t q = absurd (let z : 0 ≡ 10 = ap (λ (a : Answer). a.number) q in omega arith)
 
   -- where a number below N or C leads, and where all of them do
-  module _ {n c : ℕ} (f : r ≡ M.Fit n c) where
-    pub all-nodes : node_start n ≤ nodes
+  module _ {fit : Fit} (f : r ≡ Ok fit) where
+    pub all-nodes : node_start fit.nodes ≤ nodes
     all-nodes = let w = fit-means f in omega (arith, w.nodes-whole)
 
-    pub all-cells : cell_start c ≤ cells
+    pub all-cells : cell_start fit.cells ≤ cells
     all-cells = let w = fit-means f in omega (arith, w.cells_whole)
 
-    pub node-in : (k : ℕ) → k < n → node_start k + 47 ≤ nodes
+    pub node-in : (k : ℕ) → k < fit.nodes → node_start k + 47 ≤ nodes
     node-in k l = let w = fit-means f in omega (arith, w.nodes-whole)
 
-    pub cell_in : (k : ℕ) → k < c → cell_start k + 2 ≤ cells
+    pub cell_in : (k : ℕ) → k < fit.cells → cell_start k + 2 ≤ cells
     cell_in k l = let w = fit-means f in omega (arith, w.cells_whole)
 
-    pub key_in : (k : ℕ) → k < c → key_start k + 256 ≤ bytes
+    pub key_in : (k : ℕ) → k < fit.cells → key_start k + 256 ≤ bytes
     key_in k l = let w = fit-means f in omega (arith, w.bytes_whole)
 
 pub ruleset places = (all-nodes, all-cells, node-in, cell_in, key_in)

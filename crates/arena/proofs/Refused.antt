@@ -2,10 +2,10 @@
 use Prim.Native.Nat.{◌<◌}
 use mathlib.Core.Path.{◌≡◌, refl}
 use mathlib.Core.Bool.{Bool, true, false, cond}
-use mathlib.Core.List.{List, [], ◌∷◌}
+use mathlib.Core.List.{[], ◌∷◌}
 use native.Mathlib.Omega.{arith}
 use lib.ListN.{length}
-use Rattle.refusal.specs.Answer.{Answer, accepted, answered, ◌unless◌}
+use Rattle.refusal.specs.Answer.{accepted, answered, ◌unless◌}
 use Rattle.arena.specs.Memory.{Memory, right_lengths, did, cleared}
 
 -- the answer is that of the rule for the lent lengths

@@ -16,7 +16,6 @@ pub use Rattle.lent_words.proofs.Words.{
   put-put,
   set-put,
   zero-none,
-  zero_more,
   zero-all,
   part-part,
   middle,

@@ -1,12 +1,10 @@
 -- Lent memory as a whole: its lengths, and what `clear` leaves.
-use Rattle.std.specs.Prelude.{ℕ, ◌+◌, ◌-◌, ◌*◌, ◌/◌, Bool, cond, ◌&&◌, List, [], ◌∷◌, length, leb, eqb}
+use Rattle.std.specs.Prelude.{ℕ, ◌+◌, ◌-◌, ◌*◌, ◌/◌, Bool, cond, ◌&&◌, List, [], ◌∷◌, length, leb, eqb, Result, Ok, Err}
 use Rattle.memory_layout.specs.Numbers.{header_words, node_words, cell_words, cell_bytes, most_lent}
+use Rattle.refusal.specs.declared.Refusal.{Refusal}
 use Rattle.refusal.specs.Answer.{Answer, accepted, refused, answered, ◌unless◌}
 use Rattle.lent_nodes.specs.declared.inside.Leaf.{Leaf}
-use Rattle.arena.specs.declared.Measured.{Measured}
-use Rattle.arena.specs.declared.Measured.TheVariants as M
-use Rattle.arena.specs.declared.Cleared.{Cleared}
-use Rattle.arena.specs.declared.Cleared.TheVariants as C
+use Rattle.arena.specs.declared.Fit.{Fit}
 use Rattle.lent_words.specs.Parts.{zeros}
 use Rattle.lent_nodes.specs.Layout.{put_leaf}
 
@@ -45,9 +43,9 @@ measured nodes cells bytes =
     answered ((10 unless right_lengths nodes cells bytes) ∷ []) (node_count nodes ∷ cell_count cells ∷ []) []
 
 -- the lent lengths: 0, N and C, or the refusal's number
-abbrev pub said_measured : Measured → Answer
-said_measured (M.Fit n c) = accepted (n ∷ c ∷ [])
-said_measured (M.Refused why) = refused why []
+abbrev pub said_measured : Result Fit Refusal → Answer
+said_measured (Ok fit) = accepted (fit.nodes ∷ fit.cells ∷ [])
+said_measured (Err why) = refused why []
 
 -- a leaf with no slot in use
 abbrev pub empty_leaf : Leaf
@@ -76,6 +74,6 @@ cleared m =
     (did (record { number = 10; values = [] }) m)
 
 -- a clear: 0, or the refusal's number
-abbrev pub said_cleared : Cleared → Answer
-said_cleared C.Done = accepted []
-said_cleared (C.Refused why) = refused why []
+abbrev pub said_cleared : Result (Unit {0}) Refusal → Answer
+said_cleared (Ok _) = accepted []
+said_cleared (Err why) = refused why []

@@ -14,65 +14,44 @@ use refusal::Refusal;
 // The slot word of an empty leaf, width 15.
 const EMPTY: u64 = 0x0123_4567_89AB_CDE0;
 
-// How many nodes and cells the lent slices have room for, or 10.
+// How many nodes and cells fit into the lent slices.
 #[derive(Clone, Copy)]
-pub enum Measured {
-    Fit { nodes: usize, cells: usize },
-    Refused(Refusal),
-}
-
-// What a clear answers: done, or 10.
-#[derive(Clone, Copy)]
-pub enum Cleared {
-    Done,
-    Refused(Refusal),
+pub struct Fit {
+    pub nodes: usize,
+    pub cells: usize,
 }
 
 // How many nodes and cells the lent slices have room for; refusal 10 where their lengths are wrong.
-pub fn lengths(nodes: &[u64], cells: &[u64], bytes: &[u8]) -> Measured
+pub fn lengths(nodes: &[u64], cells: &[u64], bytes: &[u8]) -> Result<Fit, Refusal>
     ensures { said_measured result ≡ measured (length nodes.now) (length cells.now) (length bytes.now) }
 {
     measure(nodes.len(), cells.len(), bytes.len())
 }
 
 // The same by the three lengths alone.
-pub fn measure(nodes: usize, cells: usize, bytes: usize) -> Measured
+pub fn measure(nodes: usize, cells: usize, bytes: usize) -> Result<Fit, Refusal>
     ensures { said_measured result ≡ measured nodes cells bytes }
 {
     if nodes < 49 {
-        return Measured::Refused(Refusal::Memory);
+        return Err(Refusal::Memory);
     }
     let n = (nodes - HEADER_WORDS) / NODE_WORDS;
-    if MOST_LENT < n {
-        return Measured::Refused(Refusal::Memory);
-    }
-    if nodes != HEADER_WORDS + n * NODE_WORDS {
-        return Measured::Refused(Refusal::Memory);
+    if MOST_LENT < n || nodes != HEADER_WORDS + n * NODE_WORDS {
+        return Err(Refusal::Memory);
     }
     let c = cells / CELL_WORDS;
-    if c < 1 {
-        return Measured::Refused(Refusal::Memory);
+    if c < 1 || MOST_LENT < c || cells != c * CELL_WORDS || bytes != c * CELL_BYTES {
+        return Err(Refusal::Memory);
     }
-    if MOST_LENT < c {
-        return Measured::Refused(Refusal::Memory);
-    }
-    if cells != c * CELL_WORDS {
-        return Measured::Refused(Refusal::Memory);
-    }
-    if bytes != c * CELL_BYTES {
-        return Measured::Refused(Refusal::Memory);
-    }
-    Measured::Fit { nodes: n, cells: c }
+    Ok(Fit { nodes: n, cells: c })
 }
 
 // Leaves node 0, an empty leaf, as root, and everything else zero.
-pub fn clear(nodes: &mut [u64], cells: &mut [u64], bytes: &mut [u8]) -> Cleared
+pub fn clear(nodes: &mut [u64], cells: &mut [u64], bytes: &mut [u8]) -> Result<(), Refusal>
     ensures { did (said_cleared result) (memory nodes.new cells.new bytes.new)
         ≡ cleared (memory nodes.old cells.old bytes.old) }
 {
-    if let Measured::Refused(why) = lengths(nodes, cells, bytes) {
-        return Cleared::Refused(why);
-    }
+    lengths(nodes, cells, bytes)?;
     inside::zero_words(nodes, 0, nodes.len());
     inside::zero_words(cells, 0, cells.len());
     inside::zero_bytes(bytes, 0, bytes.len());
@@ -86,5 +65,5 @@ pub fn clear(nodes: &mut [u64], cells: &mut [u64], bytes: &mut [u8]) -> Cleared
             refs: [0u64; 15],
         },
     );
-    Cleared::Done
+    Ok(())
 }

@@ -13,8 +13,8 @@ use Rattle.refusal.specs.declared.Refusal.{Refusal}
 use Rattle.refusal.specs.declared.Refusal.TheVariants.{Memory}
 use Rattle.refusal.specs.Refusals.{number_of}
 use Rattle.refusal.proofs.Laws.{number-pos}
-use Rattle.arena.specs.declared.Measured.{Measured}
-use Rattle.arena.specs.declared.Measured.TheVariants as M
+use Rattle.std.specs.Prelude.{Result, Ok, Err}
+use Rattle.arena.specs.declared.Fit.{Fit}
 use Rattle.arena.specs.Parts.{zeros}
 use Rattle.arena.specs.Memory as lent
 use Rattle.arena.specs.Memory.{memory, node_count, cell_count, right_lengths, measured, said_measured}
@@ -24,8 +24,8 @@ use Rattle.walk.specs.Steps.{told, Lent}
 use Rattle.audit_seen.specs.Seen.{LentAll}
 use Rattle.audit.specs.Audit.{audited}
 
-module _ (nodes cells bytes : List ℕ) {r : Measured} (e : said_measured r ≡ measured (length nodes) (length cells) (length bytes)) where
-  wrong : {why : Refusal} → r ≡ M.Refused why → right_lengths (length nodes) (length cells) (length bytes) ≡ false
+module _ (nodes cells bytes : List ℕ) {r : Result Fit Refusal} (e : said_measured r ≡ measured (length nodes) (length cells) (length bytes)) where
+  wrong : {why : Refusal} → r ≡ Err why → right_lengths (length nodes) (length cells) (length bytes) ≡ false
   unfolding measured
   wrong {why} f = by (right_lengths (length nodes) (length cells) (length bytes)) (ap said_measured (sym f) ∙ e)
     where
@@ -35,24 +35,24 @@ module _ (nodes cells bytes : List ℕ) {r : Measured} (e : said_measured r ≡ 
       by true q = absurd (let z : number_of why ≡ 0 = ap (λ (a : Answer). a.number) q in omega (arith, number-pos why))
       by false q = refl
 
-  pub judge-unfit : {why : Refusal} → r ≡ M.Refused why → false ≡ is_tree (memory nodes cells bytes)
+  pub judge-unfit : {why : Refusal} → r ≡ Err why → false ≡ is_tree (memory nodes cells bytes)
   unfolding is_tree
   judge-unfit f = rw (wrong f)
 
-  module _ {n c : ℕ} (f : r ≡ M.Fit n c) where
-    fit : Right (length nodes) (length cells) (length bytes) n c
-    fit = fit-means _ _ _ e f
+  module _ {fit : Fit} (f : r ≡ Ok fit) where
+    right : Right (length nodes) (length cells) (length bytes) fit.nodes fit.cells
+    right = fit-means _ _ _ e f
 
     fit-true : right_lengths (length nodes) (length cells) (length bytes) ≡ true
-    fit-true = right-if _ _ _ n c fit
+    fit-true = right-if _ _ _ fit.nodes fit.cells right
 
     -- the number of the root
     pub first-in : 0 < length nodes
-    first-in = omega (arith, fit.nodes-whole)
+    first-in = omega (arith, right.nodes-whole)
 
     pub lent-walk : Lent nodes cells bytes (zeros 510) (zeros 32) 0
     lent-walk =
-        let w = fit in
+        let w = right in
         record {
           nodes-few = omega arith;
           nodes-whole = omega arith;
@@ -64,9 +64,9 @@ module _ (nodes cells bytes : List ℕ) {r : Measured} (e : said_measured r ≡ 
           few = omega arith;
         }
 
-    pub lent-all : (seen : Seen) → length seen ≡ 510 → LentAll nodes cells bytes seen n c
+    pub lent-all : (seen : Seen) → length seen ≡ 510 → LentAll nodes cells bytes seen fit.nodes fit.cells
     lent-all seen l =
-        let w = fit in
+        let w = right in
         record {
           n-few = w.n-high;
           c-few = w.c-high;

@@ -44,17 +44,14 @@ fn nodes_free(nodes: &[u64], seen: &[u8], n: usize) -> bool
     requires { (node_start n ≤ length nodes.now) × (2 * n ≤ length seen.now) }
     ensures { result ≡ all_below n (node_left nodes.now seen.now) }
 {
-    let mut k: usize = 0;
     // Every node below k was seen or is free.
-    while k < n {
+    for k in 0..n {
         if seen[2 * k] == 1 {
-            k += 1;
             continue;
         }
         if !shape::inside::node_free(nodes, k) {
             return false;
         }
-        k += 1;
     }
     true
 }
@@ -65,19 +62,16 @@ fn cells_right(cells: &[u64], bytes: &[u8], seen: &[u8], c: usize, count: u64) -
     ensures { result ≡ all_below c (cell_left cells.now bytes.now seen.now)
         && eqb count (how_many c (cell_seen seen.now)) }
 {
-    let mut k: usize = 0;
     let mut many: u64 = 0;
     // Every cell below k was seen or is free, and `many` of them were seen.
-    while k < c {
+    for k in 0..c {
         if seen[2 * k + 1] == 1 {
             many += 1;
-            k += 1;
             continue;
         }
         if !shape::inside::cell_free(cells, bytes, k) {
             return false;
         }
-        k += 1;
     }
     count == many
 }

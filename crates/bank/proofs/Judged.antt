@@ -4,44 +4,57 @@ use mathlib.Core.Bool.{Bool, true, false, cond}
 use mathlib.Core.List.{List, [], ◌∷◌, ◌++◌}
 use Prim.Native.Nat.{ℕ}
 use native.Mathlib.Omega.{arith}
+use Rattle.std.specs.Prelude.{Result, Ok, Err}
 use Rattle.refusal.specs.Answer.{Rule, answered, refused}
 use Rattle.refusal.specs.declared.Refusal.{Refusal}
 use Rattle.refusal.specs.declared.Refusal.TheVariants.{Width, Word}
-use Rattle.bank.specs.declared.Verdict.{Verdict}
-use Rattle.bank.specs.declared.Verdict.TheVariants.{Fine, No}
 use Rattle.bank.specs.Calls.{Change, Question, change_rules, after, told_beside, question_rules, told}
 use Rattle.bank.specs.Holder.{Holder, held_rules, changed_in, asked_in}
 use Rattle.bank.specs.Judged.{or_else, judged_in}
 
--- the two tests, from a verdict that is fine
-passed : (p q : Bool) → or_else p Width (or_else q Word Fine) ≡ Fine → (p ≡ true) × (q ≡ true)
+-- the two tests, where it passes
+passed : (p q : Bool) → or_else p Width (or_else q Word (Ok tt)) ≡ Ok tt → (p ≡ true) × (q ≡ true)
 passed true true e = (refl, refl)
 passed true false e = absurd (let z : ◌≡◌ {A = ℕ} 0 1 = cc in omega arith)
 passed false q e = absurd (let z : ◌≡◌ {A = ℕ} 0 1 = cc in omega arith)
 
-module _ {Held : Type 0} (h : Holder Held) (held : Held) {v : Verdict} (e : v ≡ judged_in h held) where
-  fine-tests : v ≡ Fine → (h.good_width ≡ true) × (h.valid held ≡ true)
+-- one law for each way in which the judgement returns
+module _ {Held : Type 0} (h : Holder Held) (held : Held) where
+  pub judged-width : h.good_width ≡ false → Err Width ≡ judged_in h held
+  unfolding judged_in
+  judged-width e = rw e
+
+  pub judged-wrong : h.good_width ≡ true → h.valid held ≡ false → Err Word ≡ judged_in h held
+  unfolding judged_in
+  judged-wrong e d = rw (e, d)
+
+  pub judged-right : h.good_width ≡ true → h.valid held ≡ true → Ok tt ≡ judged_in h held
+  unfolding judged_in
+  judged-right e d = rw (e, d)
+
+module _ {Held : Type 0} (h : Holder Held) (held : Held) {v : Result (Unit {0}) Refusal} (e : v ≡ judged_in h held) where
+  fine-tests : v ≡ Ok tt → (h.good_width ≡ true) × (h.valid held ≡ true)
   unfolding judged_in
   fine-tests f = passed h.good_width (h.valid held) (sym e ∙ f)
 
-  pub width-good : v ≡ Fine → h.good_width ≡ true
+  pub width-good : v ≡ Ok tt → h.good_width ≡ true
   width-good f = (fine-tests f).0
 
-  pub held-valid : v ≡ Fine → h.valid held ≡ true
+  pub held-valid : v ≡ Ok tt → h.valid held ≡ true
   held-valid f = (fine-tests f).1
 
   -- the judgement passes: what is left are the call's own conditions
-  pub go_on : v ≡ Fine → (rules : List Rule) (values back : List ℕ)
+  pub go_on : v ≡ Ok tt → (rules : List Rule) (values back : List ℕ)
       → answered (held_rules h held rules) values back ≡ answered rules values back
   go_on f rules values back = rw ((fine-tests f).0, (fine-tests f).1)
 
-  module _ {why : Refusal} (f : v ≡ No why) where
+  module _ {why : Refusal} (f : v ≡ Err why) where
     -- the judgement refuses: so does every call
     pub refused-held : (rules : List Rule) (values back : List ℕ) → refused why back ≡ answered (held_rules h held rules) values back
     unfolding judged_in
     refused-held rules values back = by h.good_width (h.valid held) (sym e ∙ f)
       where
-        by : (p q : Bool) → or_else p Width (or_else q Word Fine) ≡ No why
+        by : (p q : Bool) → or_else p Width (or_else q Word (Ok tt)) ≡ Err why
             → refused why back
             ≡ cond p
             (cond q (answered rules values back) (record { number = 2; values = back }))
@@ -67,3 +80,5 @@ module _ {Held : Type 0} (h : Holder Held) (held : Held) {v : Verdict} (e : v �
 
 -- refused by the judgement; that the two tests hold where it passes is told of each holder by itself
 pub ruleset judgement = (asked-refused, changed-refused)
+
+pub ruleset judging = (judged-width, judged-wrong, judged-right)

@@ -9,6 +9,7 @@ pub mod Rules
 pub mod Holder
 pub mod Returns
 pub mod Judged
+pub mod Tried
 pub mod Making
 pub mod Starts
 pub mod Alike

@@ -1,6 +1,7 @@
 -- One law for each way in which a call returns after the judgement, whatever holds the bank. Assumes nothing.
 use mathlib.Core.Path.{◌≡◌, refl, sym, ap, ap₂, ◌∙◌}
 use mathlib.Core.Bool.{true}
+use mathlib.Core.Logic.{◌⊎◌, inl, inr}
 use mathlib.Core.List.{List, [], ◌∷◌, ◌++◌, append-nil}
 use Prim.Native.Nat.{ℕ, ◌+◌, ◌-◌, ◌≤◌, ◌<◌}
 use native.Mathlib.Omega.{arith}
@@ -65,14 +66,6 @@ module _ {Held : Type 0} (h : Holder Held) (held : Held) (good : h.good_width �
       unfolding changed_in
       first-free-position i l = rw (good, valid, g, lt-leb i b.size (omega arith))
 
-      pub swap-first-in-use : (i j : ℕ) → i < n → refused Position given ≡ changed_in h held (swap_free_slots i j)
-      unfolding changed_in
-      swap-first-in-use i j l = rw (good, valid, g, lt-leb b.size i (omega arith))
-
-    pub rotate-order : (i j : ℕ) → j < i → refused Position given ≡ changed_in h held (rotate i j)
-    unfolding changed_in
-    rotate-order i j l = rw (good, valid, g, lt-leb i j l)
-
     -- by the width
     module _ {w : ℕ} (wide : width b ≡ w) where
       pub get-position : (i : ℕ) → w ≤ i → refused Position given ≡ asked_in h held (get i)
@@ -83,17 +76,15 @@ module _ {Held : Type 0} (h : Holder Held) (held : Held) (good : h.good_width �
       unfolding changed_in
       resize-position n l = rw (good, valid, g, wide, lt-leb n w l)
 
-      pub exchange-first : (i j : ℕ) → w ≤ i → refused Position given ≡ changed_in h held (exchange i j)
+      pub exchange-out : (i j : ℕ) → (w ≤ i) ⊎ ((i < w) × (w ≤ j)) → refused Position given ≡ changed_in h held (exchange i j)
       unfolding changed_in
-      exchange-first i j l = rw (good, valid, g, wide, le-ltb i w l)
+      exchange-out i j (inl l) = rw (good, valid, g, wide, le-ltb i w l)
+      exchange-out i j (inr l) = rw (good, valid, g, wide, lt-ltb i w l.0, le-ltb j w l.1)
 
-      pub exchange-second : (i j : ℕ) → i < w → w ≤ j → refused Position given ≡ changed_in h held (exchange i j)
+      pub rotate-out : (i j : ℕ) → (j < i) ⊎ ((i ≤ j) × (w < j)) → refused Position given ≡ changed_in h held (rotate i j)
       unfolding changed_in
-      exchange-second i j l m = rw (good, valid, g, wide, lt-ltb i w l, le-ltb j w m)
-
-      pub rotate-out : (i j : ℕ) → i ≤ j → w < j → refused Position given ≡ changed_in h held (rotate i j)
-      unfolding changed_in
-      rotate-out i j l m = rw (good, valid, g, wide, le-leb i j l, lt-leb j w m)
+      rotate-out i j (inl l) = rw (good, valid, g, lt-leb i j l)
+      rotate-out i j (inr l) = rw (good, valid, g, wide, le-leb i j l.0, lt-leb j w l.1)
 
       module _ {n : ℕ} (s : n ≡ b.size) where
         pub offset-position : (k : ℕ) → w - n ≤ k → b.size ≤ w → refused Position given ≡ asked_in h held (back_at_offset k)
@@ -108,20 +99,17 @@ module _ {Held : Type 0} (h : Holder Held) (held : Held) (good : h.good_width �
         unfolding changed_in
         first-free-full i l m = rw (good, valid, g, wide, le-leb i b.size (omega arith), le-ltb b.size w (omega arith))
 
-        module _ (i j : ℕ) (l : n ≤ i) where
-          pub swap-first-out : w ≤ i → refused Position given ≡ changed_in h held (swap_free_slots i j)
-          unfolding changed_in
-          swap-first-out m = rw (good, valid, g, wide, le-leb b.size i (omega arith), le-ltb i w m)
-
-          pub swap-second-in-use : i < w → j < n → refused Position given ≡ changed_in h held (swap_free_slots i j)
-          unfolding changed_in
-          swap-second-in-use m k =
-              rw (good, valid, g, wide, le-leb b.size i (omega arith), lt-ltb i w m, lt-leb b.size j (omega arith))
-
-          pub swap-second-out : i < w → n ≤ j → w ≤ j → refused Position given ≡ changed_in h held (swap_free_slots i j)
-          unfolding changed_in
-          swap-second-out m k o =
-              rw (good, valid, g, wide, le-leb b.size i (omega arith), lt-ltb i w m, le-leb b.size j (omega arith), le-ltb j w o)
+        -- i in use, i out of range, j in use, j out of range
+        pub swap-out : (i j : ℕ)
+            → (i < n) ⊎ (((n ≤ i) × (w ≤ i)) ⊎ (((n ≤ i) × (i < w) × (j < n)) ⊎ ((n ≤ i) × (i < w) × (n ≤ j) × (w ≤ j))))
+            → refused Position given ≡ changed_in h held (swap_free_slots i j)
+        unfolding changed_in
+        swap-out i j (inl l) = rw (good, valid, g, lt-leb b.size i (omega arith))
+        swap-out i j (inr (inl l)) = rw (good, valid, g, wide, le-leb b.size i (omega arith), le-ltb i w l.1)
+        swap-out i j (inr (inr (inl l))) =
+            rw (good, valid, g, wide, le-leb b.size i (omega arith), lt-ltb i w l.1, lt-leb b.size j (omega arith))
+        swap-out i j (inr (inr (inr l))) =
+            rw (good, valid, g, wide, le-leb b.size i (omega arith), lt-ltb i w l.1, le-leb b.size j (omega arith), le-ltb j w l.3)
 
   -- ---- accepted: a number of the bank is told
 
@@ -231,17 +219,12 @@ pub ruleset returns = (
   insert-full,
   first-free-position,
   first-free-full,
-  swap-first-in-use,
-  swap-first-out,
-  swap-second-in-use,
-  swap-second-out,
-  rotate-order,
+  swap-out,
   rotate-out,
   get-position,
   offset-position,
   resize-position,
-  exchange-first,
-  exchange-second,
+  exchange-out,
   told-size,
   told_back,
   told-get,

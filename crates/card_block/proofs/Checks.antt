@@ -1,5 +1,5 @@
 -- Laws on the check of a block: the loop over its words. Assumes nothing.
-use Rattle.std.proofs.Common.{◌≡◌, ℕ, suc, ◌+◌, ◌-◌, ◌*◌, ◌<◌, ◌≤◌, false, eqb, List, drop, arith, drop-drop, eq-eqb, ne_eqb}
+use Rattle.std.proofs.Common.{◌≡◌, ℕ, suc, ◌+◌, ◌-◌, ◌*◌, ◌<◌, ◌≤◌, eqb, List, drop, arith, drop-drop, eq-eqb, ne_eqb}
 use Rattle.card_block.specs.declared.Sums.{Sums}
 use Rattle.card_block.specs.Words.{little_endian, words_of}
 use Rattle.card_block.specs.Check.{plus, through, check_of, good_block}
@@ -28,13 +28,12 @@ module _ (block : List ℕ) (number : ℕ) where
   unfolding from_word words_of through
   from_last {i} h e = let n : 126 - i ≡ 0 = omega arith in rw n at e
 
--- the two ways in which `is_good` answers
-module _ (block : List ℕ) (number : ℕ) {s : Sums} {a b : ℕ}
-    (e : s ≡ check_of number block) (p : a ≡ little_endian 4 (drop 504 block)) (q : b ≡ little_endian 4 (drop 508 block)) where
-  pub good-first : a ≡ s.a → eqb b s.b ≡ good_block number block
+-- the two ways in which `is_good` answers: the first word is looked at, then the second
+module _ (block : List ℕ) (number : ℕ) {s : Sums} {a : ℕ} (e : s ≡ check_of number block) (p : a ≡ little_endian 4 (drop 504 block)) where
+  pub good-not : (a ≡ s.a → ⊥) → eqb a s.a ≡ good_block number block
   unfolding good_block
-  good-first h = rw (← p, ← q, ← e, eq-eqb a s.a h)
+  good-not h = rw (← p, ← e, ne_eqb a s.a h)
 
-  pub good-not : (a ≡ s.a → ⊥) → false ≡ good_block number block
+  pub good-first : {b : ℕ} → b ≡ little_endian 4 (drop 508 block) → a ≡ s.a → eqb b s.b ≡ good_block number block
   unfolding good_block
-  good-not h = rw (← p, ← q, ← e, ne_eqb a s.a h)
+  good-first q h = rw (← p, ← q, ← e, eq-eqb a s.a h)

@@ -1,6 +1,7 @@
 -- Laws on a block being filled: its words put one by one, and its check behind its bytes. Assumes nothing.
-use Rattle.std.proofs.Common.{◌≡◌, ℕ, suc, ◌+◌, ◌/◌, ◌%◌, ◌≤◌, List, [], ◌∷◌, ◌++◌, length, take, drop, set, sym, refl, ap, ◌∙◌, append-nil, arith, length-append, drop_of_length-le, length-take}
-use lib.Seq.{sets-eq}
+use Rattle.std.proofs.Common.{◌≡◌, ℕ, ◌+◌, ◌/◌, ◌%◌, ◌-◌, ◌≤◌, List, ◌++◌, length, take, drop, sym, ap, ap₂, ◌∙◌, append-nil, append_assoc, arith, length-append, drop_of_length-le, length-take}
+use borrow.Rule.Slice.PartMut.{put_mid, Post-is}
+use Rattle.std.specs.Int.{w32, to_le_bytes}
 use Rattle.lent_words.specs.Parts.{put_part}
 use Rattle.lent_words.proofs.Words.{put-put}
 use Rattle.card_block.specs.declared.Sums.{Sums}
@@ -8,19 +9,23 @@ use Rattle.card_block.specs.Words.{low_first}
 use Rattle.card_block.specs.Check.{check_of, block_of}
 use Rattle.card_block.proofs.Words.{low-length}
 
--- four bytes stored one by one are a word
-pub four-put : (l : List ℕ) (at w : ℕ) {l1 l2 l3 l4 : List ℕ} → at + 4 ≤ length l
-    → l1 ≡ set l at (w % 256) → l2 ≡ set l1 (at + 1) (w / 256 % 256) → l3 ≡ set l2 (at + 2) (w / 65536 % 256)
-    → l4 ≡ set l3 (at + 3) (w / 16777216 % 256)
-    → l4 ≡ put_part l at (low_first 4 w)
-unfolding put_part low_first
-four-put l at w h p q r s =
-    let i : at + 1 ≡ suc at = omega arith in
-    let j : at + 2 ≡ suc (suc at) = omega arith in
-    let k : at + 3 ≡ suc (suc (suc at)) = omega arith in
+-- the bytes of a word
+word-bytes : (w : ℕ) → to_le_bytes w32 w ≡ low_first 4 w
+unfolding low_first
+word-bytes w =
     let c : w / 65536 % 256 ≡ w / 256 / 256 % 256 = omega arith in
     let d : w / 16777216 % 256 ≡ w / 256 / 256 / 256 % 256 = omega arith in
-    rw (s, r, q, p, i, j, k, c, d) (sets-eq (w % 256 ∷ w / 256 % 256 ∷ w / 256 / 256 % 256 ∷ w / 256 / 256 / 256 % 256 ∷ []) l at h)
+    rw (c, d)
+
+-- written in the place of four, they are the word
+pub word-put : (l : List ℕ) (at w : ℕ) {ys zs : List ℕ} → ys ≡ to_le_bytes w32 w → zs ≡ ys
+    → put_mid at (at + 4 - at) l zs ≡ put_part l at (low_first 4 w)
+unfolding put_part
+word-put l at w {zs = zs} p q =
+    let e : zs ≡ low_first 4 w = q ∙ p ∙ word-bytes w in
+    ap₂ (λ (ys r : List ℕ). take at l ++ (ys ++ r)) e (Post-is at (at + 4) l (omega arith))
+    ∙ sym (append_assoc (take at l) (low_first 4 w) (drop (at + 4) l))
+    ∙ rw (low-length 4 w)
 
 -- a block has 512 bytes
 pub block-length : (number : ℕ) (held : List ℕ) → 504 ≤ length held → length (block_of number held) ≡ 512

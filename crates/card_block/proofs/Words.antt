@@ -1,6 +1,7 @@
 -- Laws on little-endian numbers and on the words of a list of bytes. Assumes nothing.
 use Rattle.std.proofs.Common.{◌≡◌, ℕ, zero, suc, ◌+◌, ◌*◌, ◌/◌, ◌%◌, ◌^◌, ◌<◌, ◌≤◌, List, [], ◌∷◌, ◌++◌, length, get_or, take, drop, sym, refl, ap, ◌∙◌, ap₂, add-zero, suc-add, zero-add, arith, take-append-drop, length-take-le, get_or-drop}
 use native.Mathlib.Nat.{one-le-pow}
+use Rattle.std.specs.Int.{w32, from_le_bytes}
 use Rattle.order.proofs.Bytes.{bytes_take}
 use Rattle.order.specs.Bytes.{Bytes, none, more}
 use Rattle.card_block.specs.Words.{little_endian, low_first, words_of}
@@ -25,12 +26,13 @@ four_bytes (a ∷ b ∷ []) = omega arith
 four_bytes (a ∷ b ∷ c ∷ []) = omega arith
 four_bytes (a ∷ b ∷ c ∷ d ∷ l) = omega arith
 
--- what the code adds up is the word at a place
-pub word-is : (l : List ℕ) (at : ℕ) {a b c d : ℕ} → a ≡ get_or l at 0 → b ≡ get_or l (at + 1) 0 → c ≡ get_or l (at + 2) 0 → d ≡ get_or l (at + 3) 0
-    → a + b * 0x100 + c * 0x10000 + d * 0x1000000 ≡ little_endian 4 (drop at l)
-word-is l at p q r s =
-    rw (p, q, r, s) (rw (get_or-drop at l 0 0, add-zero at, get_or-drop at l 1 0, get_or-drop at l 2 0, get_or-drop at l 3 0) at
-    (four_bytes (drop at l)))
+-- what four bytes from a place on come to is the word there
+pub word-is : (l : List ℕ) (at : ℕ) {n : ℕ}
+    → n ≡ from_le_bytes w32 (get_or l at 0 ∷ get_or l (at + 1) 0 ∷ get_or l (at + 2) 0 ∷ get_or l (at + 3) 0 ∷ [])
+    → n ≡ little_endian 4 (drop at l)
+word-is l at {n} p =
+    let q : n ≡ get_or l at 0 + get_or l (at + 1) 0 * 0x100 + get_or l (at + 2) 0 * 0x10000 + get_or l (at + 3) 0 * 0x1000000 = p in
+    q ∙ (rw (get_or-drop at l 0 0, add-zero at, get_or-drop at l 1 0, get_or-drop at l 2 0, get_or-drop at l 3 0) at (four_bytes (drop at l)))
 
 -- a number of n bytes is below 256^n
 pub little-below : (n : ℕ) {l : List ℕ} → Bytes l → little_endian n l < 256 ^ n

@@ -64,7 +64,8 @@ pub fn save<R: Files, I: Read, O: Write, E: Write>(
     let mut nodes = [0u64; 3010];
     let mut cells = [0u64; 256];
     let mut bytes = [0u8; 32768];
-    index::clear(&mut nodes, &mut cells, &mut bytes);
+    // These lengths are right ones, so the clear is not refused.
+    let _ = index::clear(&mut nodes, &mut cells, &mut bytes);
     let ended = lines_session::answer_input(from, to, &mut nodes, &mut cells, &mut bytes);
     match ended {
         Ended::Whole => save_index(rt, to, err, path, &nodes, &cells, &bytes),

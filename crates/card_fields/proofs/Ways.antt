@@ -10,8 +10,8 @@ use Rattle.order.specs.Bytes.{bytewise}
 use Rattle.lent_words.specs.Parts.{part, put_part}
 use Rattle.card_block.specs.Words.{little_endian}
 use Rattle.card_stream.specs.Stream.{lacking}
-use Rattle.ikey.specs.declared.Ordering.{Ordering as Ordered}
-use Rattle.ikey.specs.declared.Ordering.TheVariants.{Less, Equal, Greater}
+use Rattle.std.specs.declared.cmp.Ordering.{Ordering as Ordered}
+use Rattle.std.specs.declared.cmp.Ordering.TheVariants.{Less, Equal, Greater}
 use Rattle.ikey.specs.Said.{order_of}
 use Rattle.card_fields.specs.declared.Fields.{Fields}
 use Rattle.card_fields.specs.declared.Stage.TheVariants.{Counting, Measuring, Naming, Framing, Filling, Stopped}

@@ -8,7 +8,7 @@ ghost use Rattle.card_fields.specs.Step.{names, counts, measures, fills, whole_o
 ghost use Rattle.card_fields.specs.Fits.{Fits};
 
 use crate::{Fields, Stage};
-use ikey::Ordering;
+use std::cmp::Ordering;
 
 // The first byte of a field is to come.
 fn started(

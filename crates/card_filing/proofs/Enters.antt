@@ -4,11 +4,9 @@ use mathlib.Core.Path.{◌≡◌, sym, subst}
 use mathlib.Core.Bool.{true, false}
 use mathlib.Core.List.{List, [], ◌∷◌}
 use native.Mathlib.Omega.{arith}
-use denote.Enum.Declared.{tag_of}
-use types.Run.{OneOf}
 use borrow.Author.Tests.{ne_eqb}
 use lib.ListN.{length, take, drop, length-take}
-use Rattle.refusal.specs.declared.Refusal.{Refusal}
+use Rattle.std.specs.Prelude.{Result, Ok, Err}
 use Rattle.refusal.specs.Refusals.{number_of}
 use Rattle.refusal.proofs.Laws.{number-pos}
 use Rattle.arena.specs.Memory.{Memory, Did, did, right_lengths}
@@ -17,9 +15,8 @@ use Rattle.card_fields.specs.declared.Fields.{Fields}
 use Rattle.card_fields.specs.Step.{step}
 use Rattle.card_fields.specs.Fits.{Fits}
 use Rattle.card_fields.proofs.Small.{Safe, step-safe}
-use Rattle.index_put.specs.declared.Added.{Added}
-use Rattle.index_put.specs.declared.Added.TheVariants as added_is
-use Rattle.index_put.specs.contracts.Added as added-type
+use Rattle.index_put.specs.declared.PutRefused.{PutRefused}
+use Rattle.index_put.specs.declared.PutRefused.TheVariants as put_no
 use Rattle.model.specs.Calls.{put_lent}
 use Rattle.index_put.specs.Answers.{said_added}
 use Rattle.map_loads.specs.Loads.{and_put}
@@ -33,32 +30,23 @@ right_kept y p q r = rw (p, q, r) y
 -- ---- the next put
 
 module _ (d : Memory) (e : List ℕ × ℕ) where
-  pub put_on : (added : Added) → OneOf (0 ∷ []) (tag_of added-type.the_type added) → {r : Did}
+  pub put_on : {added : Result ℕ PutRefused} {resting : ℕ} → added ≡ Ok resting → {r : Did}
       → r ≡ put_lent d e.0 e.1 → r ≡ and_put put_lent (did (said_added added) d) e
   unfolding and_put
-  put_on added h {r} q = by added h
-    where
-      by : (x : Added) → OneOf (0 ∷ []) (tag_of added-type.the_type x) → r ≡ and_put put_lent (did (said_added x) d) e
-      by (added_is.Done resting) g = q
-      by (added_is.TooFewNodes n) g = absurd (omega (arith, g))
-      by (added_is.Refused why) g = absurd (omega (arith, g))
+  put_on w q = rw w q
 
-  pub put-lacked : {added : Added} {n : ℕ} → added ≡ added_is.TooFewNodes n
-      → did (said_added (added_is.TooFewNodes n)) d ≡ and_put put_lent (did (said_added added) d) e
+  pub put_refused : {added : Result ℕ PutRefused} (why : PutRefused) → added ≡ Err why
+      → did (said_added (Err why)) d ≡ and_put put_lent (did (said_added added) d) e
   unfolding and_put
-  put-lacked q = rw q
-
-  pub put_refused : {added : Added} {why : Refusal} → added ≡ added_is.Refused why
-      → did (said_added (added_is.Refused why)) d ≡ and_put put_lent (did (said_added added) d) e
-  unfolding and_put
-  put_refused {why = why} q = rw (q, ne_eqb (number_of why) 0 (omega (arith, number-pos why)))
+  put_refused (put_no.TooFewNodes n) w = rw w
+  put_refused (put_no.Refused why) w = rw (w, ne_eqb (number_of why) 0 (omega (arith, number-pos why)))
 
 -- ---- one byte
 
 pub entered-key : (key : List ℕ) (t : Fields) {k : List ℕ} → Fits t → k ≡ take (t.last - 1) key → length k ≤ 256
 entered-key key t f e = rw (e, length-take) (omega (arith, f.named))
 
-module _ (key : List ℕ) (t : Fields) (added : Added) (m : Memory) where
+module _ (key : List ℕ) (t : Fields) (added : Result ℕ PutRefused) (m : Memory) where
   pub gained-put : {r : Did} {k : List ℕ} → t.got ≡ true → k ≡ take (t.last - 1) key
       → r ≡ and_put put_lent (did (said_added added) m) (k, t.frame) → r ≡ entered key t (did (said_added added) m)
   unfolding entered

@@ -11,7 +11,7 @@ ghost use Rattle.card_filing.specs.Filing.{entered, step_putting, both};
 
 use crate::Filing;
 use card_fields::Fields;
-use index_put::Added;
+use index_put::PutRefused;
 
 // The next put, unless one before it was refused.
 fn and_put(
@@ -20,17 +20,16 @@ fn and_put(
     bytes: &mut [u8],
     key: &[u8],
     frame: u64,
-    added: Added,
-) -> Added
+    added: Result<usize, PutRefused>,
+) -> Result<usize, PutRefused>
     requires { (right_lengths (length nodes.old) (length cells.old) (length bytes.old) ≡ true) × (length key.now ≤ 256) }
     ensures { did (said_added result) (memory nodes.new cells.new bytes.new)
         ≡ and_put put_lent (did (said_added added) (memory nodes.old cells.old bytes.old))
         (key.now, frame) }
 {
     match added {
-        Added::Done { resting: _ } => index_put::inside::put_lent(nodes, cells, bytes, key, frame),
-        Added::TooFewNodes(lacking) => Added::TooFewNodes(lacking),
-        Added::Refused(why) => Added::Refused(why),
+        Ok(_) => index_put::inside::put_lent(nodes, cells, bytes, key, frame),
+        Err(why) => Err(why),
     }
 }
 
@@ -53,8 +52,8 @@ fn put_gained(
     bytes: &mut [u8],
     key: &[u8],
     t: Fields,
-    added: Added,
-) -> Added
+    added: Result<usize, PutRefused>,
+) -> Result<usize, PutRefused>
     requires { (right_lengths (length nodes.old) (length cells.old) (length bytes.old) ≡ true) × Fits t
         × (length key.now ≡ 256) }
     ensures { did (said_added result) (memory nodes.new cells.new bytes.new)

@@ -4,11 +4,11 @@
 pub mod inside;
 
 use card_fields::Fields;
-use index_put::Added;
+use index_put::PutRefused;
 
 // Where the machine stands, and what the puts so far have come to.
 #[derive(Clone, Copy)]
 pub struct Filing {
     pub fields: Fields,
-    pub added: Added,
+    pub added: Result<usize, PutRefused>,
 }

@@ -15,8 +15,8 @@ use Rattle.refusal.specs.declared.Refusal.TheVariants as no
 use Rattle.refusal.specs.Refusals.{number_of}
 use Rattle.refusal.proofs.Laws.{number-pos}
 use Rattle.order.specs.Map.{Map}
-use Rattle.arena.specs.declared.Measured.{Measured}
-use Rattle.arena.specs.declared.Measured.TheVariants as M
+use Rattle.std.specs.Prelude.{Result, Ok, Err}
+use Rattle.arena.specs.declared.Fit.{Fit}
 use Rattle.arena.specs.Memory.{Memory, Did, did, node_count, cell_count, right_lengths, measured, said_measured}
 use Rattle.arena.proofs.Measures.{fit-means, right-if, and-true}
 use Rattle.map_loads.specs.Loads.{loaded}
@@ -42,8 +42,8 @@ judged image =
     (cond (checks_good image) (exam_stream (blocks_in image) (read image)) (Bad (loaded-is.Check (bad_block image))))
     (Bad loaded-is.Length)
 
-module _ (a b c : ℕ) (image : List ℕ) {r : Measured} (e : said_measured r ≡ measured a b c) where
-  pub exam-lent : {why : Refusal} → r ≡ M.Refused why → Bad (loaded-is.Refused no.Memory) ≡ examined a b c image
+module _ (a b c : ℕ) (image : List ℕ) {r : Result Fit Refusal} (e : said_measured r ≡ measured a b c) where
+  pub exam-lent : {why : Refusal} → r ≡ Err why → Bad (loaded-is.Refused no.Memory) ≡ examined a b c image
   unfolding measured examined
   exam-lent {why} f = by (right_lengths a b c) (ap said_measured (sym f) ∙ e)
     where
@@ -52,9 +52,9 @@ module _ (a b c : ℕ) (image : List ℕ) {r : Measured} (e : said_measured r �
       by true q = absurd (let z : number_of why ≡ 0 = ap (λ (y : Answer). y.number) q in omega (arith, number-pos why))
       by false q = refl
 
-  module _ {n0 c0 : ℕ} (f : r ≡ M.Fit n0 c0) where
+  module _ {fit : Fit} (f : r ≡ Ok fit) where
     fits : right_lengths a b c ≡ true
-    fits = right-if a b c n0 c0 (fit-means a b c e f)
+    fits = right-if a b c fit.nodes fit.cells (fit-means a b c e f)
 
     pub exam-none : length image ≡ 0 → Bad loaded-is.Length ≡ examined a b c image
     unfolding examined whole_blocks

@@ -5,13 +5,12 @@ use mathlib.Core.Path.{◌≡◌, refl, sym, ap, ap₂, ◌∙◌}
 use mathlib.Core.Bool.{Bool, true, false, cond}
 use mathlib.Core.List.{List, [], ◌∷◌}
 use native.Mathlib.Omega.{arith}
-use denote.Enum.Declared.{tag_of}
-use types.Run.{OneOf}
 use mir.Syntax.{w8}
 use mir.Val.{Fits}
 use borrow.Author.Rules.{rules}
 use borrow.Author.Tests.{ne_eqb}
 use lib.ListN.{length, get_or, drop}
+use Rattle.std.specs.Prelude.{Result, Ok, Err}
 use Rattle.refusal.specs.Answer.{Answer, accepted, refused}
 use Rattle.refusal.specs.declared.Refusal.{Refusal}
 use Rattle.refusal.specs.Refusals.{number_of}
@@ -21,7 +20,6 @@ use Rattle.order.specs.Map.{Map, All}
 use Rattle.order.proofs.Map.{all_map}
 use Rattle.ikey.proofs.Orders.{known}
 use Rattle.lent_words.specs.Parts.{zeros}
-use Rattle.arena.specs.declared.Cleared.{Cleared}
 use Rattle.arena.specs.Memory.{Memory, memory, Did, did, right_lengths, node_count, cell_count, emptied, cleared, said_cleared}
 use Rattle.card_stream.specs.Cuts.{arrived}
 use Rattle.card_block.specs.Words.{little_endian}
@@ -34,9 +32,8 @@ use Rattle.card_fields.specs.Step.{at_first}
 use Rattle.card_fields.specs.View.{step_keeping}
 use Rattle.card_fields.proofs.Views.{machine-is-parser}
 use Rattle.card_stream.specs.Payload.{payload}
-use Rattle.index_put.specs.declared.Added.{Added}
-use Rattle.index_put.specs.declared.Added.TheVariants as added_is
-use Rattle.index_put.specs.contracts.Added as added-type
+use Rattle.index_put.specs.declared.PutRefused.{PutRefused}
+use Rattle.index_put.specs.declared.PutRefused.TheVariants as put_no
 use Rattle.index_put.specs.Answers.{too_few_nodes, said_added}
 use Rattle.model.specs.Calls.{put_lent}
 use Rattle.map_loads.specs.Loads.{puts_after, Fileable, empty_of, settled, loaded}
@@ -55,7 +52,7 @@ use Rattle.card_load.proofs.Counts.{image-count}
 
 -- ---- a clear
 
-pub emptied-by : (m : Memory) (r : Cleared) {m' : Memory} → did (said_cleared r) m' ≡ cleared m
+pub emptied-by : (m : Memory) (r : Result (Unit {0}) Refusal) {m' : Memory} → did (said_cleared r) m' ≡ cleared m
     → right_lengths (length m.nodes) (length m.cells) (length m.bytes) ≡ true → m' ≡ empty_of m
 unfolding cleared
 emptied-by m r e y = ap (λ (d : Did). d.after) (rw y at e)
@@ -67,32 +64,26 @@ empty-same m n p q = ap₂ (λ (a b : ℕ). emptied (node_count a) (cell_count b
 -- ---- filled
 
 pub fill_done : (m : Memory) (bytes : List ℕ) {m' n : Memory} {s : Fields} {field key : List ℕ} (t : Filing) → n ≡ empty_of m → s ≡ at_first
-    → both field key t m' ≡ arrived step_putting (both (zeros 256) (zeros 256) (record { fields = s; added = added_is.Done 0 }) n) bytes
+    → both field key t m' ≡ arrived step_putting (both (zeros 256) (zeros 256) (record { fields = s; added = Ok 0 }) n) bytes
     → did (said_added t.added) m' ≡ filled m bytes
 unfolding filled
 fill_done m bytes t p q e = ap (λ (b : Both). b.1) (rw (p, q) at e)
 
-module _ (m : Memory) (bytes : List ℕ) (added : Added) {n : Memory} (e : did (said_added added) n ≡ filled m bytes) where
-  pub refill-refused : (count : ℕ) {why : Refusal} {n' : Memory} → added ≡ added_is.Refused why → n' ≡ empty_of n
+module _ (m : Memory) (bytes : List ℕ) (added : Result ℕ PutRefused) {n : Memory} (e : did (said_added added) n ≡ filled m bytes) where
+  pub refill-refused : (count : ℕ) {no : PutRefused} {why : Refusal} {n' : Memory} → added ≡ Err no → no ≡ put_no.Refused why → n' ≡ empty_of n
       → length n.nodes ≡ length m.nodes → length n.cells ≡ length m.cells
       → did (refused why []) n' ≡ settled (empty_of m) count (filled m bytes)
-  refill-refused count {why} q p a b =
-      rw (← e, q, ne_eqb (number_of why) 0 (omega (arith, number-pos why))) (ap (did (refused why [])) (p ∙ empty-same m n a b))
+  refill-refused count {why = why} q w p a b =
+      rw (← e, q, w, ne_eqb (number_of why) 0 (omega (arith, number-pos why))) (ap (did (refused why [])) (p ∙ empty-same m n a b))
 
-  pub refill-lacked : (count : ℕ) {k : ℕ} {n' : Memory} → added ≡ added_is.TooFewNodes k → n' ≡ empty_of n
+  pub refill-lacked : (count : ℕ) {no : PutRefused} {k : ℕ} {n' : Memory} → added ≡ Err no → no ≡ put_no.TooFewNodes k → n' ≡ empty_of n
       → length n.nodes ≡ length m.nodes → length n.cells ≡ length m.cells
       → did (too_few_nodes k) n' ≡ settled (empty_of m) count (filled m bytes)
-  refill-lacked count {k} q p a b = rw (← e, q) (ap (did (too_few_nodes k)) (p ∙ empty-same m n a b))
+  refill-lacked count {k = k} q w p a b = rw (← e, q, w) (ap (did (too_few_nodes k)) (p ∙ empty-same m n a b))
 
-  pub refill-done : (image : List ℕ) {k : ℕ} → k ≡ little_endian 4 (drop 0 image) → OneOf (0 ∷ []) (tag_of added-type.the_type added)
+  pub refill-done : (image : List ℕ) {k resting : ℕ} → k ≡ little_endian 4 (drop 0 image) → added ≡ Ok resting
       → did (accepted (k ∷ [])) n ≡ settled (empty_of m) (little_endian 4 image) (filled m bytes)
-  refill-done image {k} c h = by added h e
-    where
-      by : (x : Added) → OneOf (0 ∷ []) (tag_of added-type.the_type x) → did (said_added x) n ≡ filled m bytes
-          → did (accepted (k ∷ [])) n ≡ settled (empty_of m) (little_endian 4 image) (filled m bytes)
-      by (added_is.Done resting) g d = rw (← d, c)
-      by (added_is.TooFewNodes l) g d = absurd (omega (arith, g))
-      by (added_is.Refused why) g d = absurd (omega (arith, g))
+  refill-done image c q = rw (← e, q, c)
 
 -- ---- what that is
 

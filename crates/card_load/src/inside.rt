@@ -9,10 +9,9 @@ ghost use Rattle.map_loads.specs.Loads.{empty_of, settled};
 ghost use Rattle.card_load.specs.Load.{examined, filled, said_loaded};
 
 use crate::Loaded;
-use arena::Measured;
 use card_filing::Filing;
 use card_reader::Verdict;
-use index_put::Added;
+use index_put::PutRefused;
 use refusal::Refusal;
 
 // What is known before the index is touched: the image has so many blocks, and can be loaded; or the answer.
@@ -26,7 +25,7 @@ pub enum Exam {
 pub fn examine(nodes: usize, cells: usize, bytes: usize, image: &[u8]) -> Exam
     ensures { result ≡ examined nodes cells bytes image.now }
 {
-    let Measured::Fit { nodes: _, cells: _ } = arena::measure(nodes, cells, bytes) else {
+    let Ok(_) = arena::measure(nodes, cells, bytes) else {
         return Exam::Bad(Loaded::Refused(Refusal::Memory));
     };
     if image.len() == 0 {
@@ -57,7 +56,13 @@ fn empty(nodes: &mut [u64], cells: &mut [u64], bytes: &mut [u8])
 }
 
 // A clear, and the entries of the stream, each put once it is whole.
-fn fill(nodes: &mut [u64], cells: &mut [u64], bytes: &mut [u8], image: &[u8], n: usize) -> Added
+fn fill(
+    nodes: &mut [u64],
+    cells: &mut [u64],
+    bytes: &mut [u8],
+    image: &[u8],
+    n: usize,
+) -> Result<usize, PutRefused>
     requires { (right_lengths (length nodes.old) (length cells.old) (length bytes.old) ≡ true) × (512 * n ≤ length image.now) }
     ensures { did (said_added result) (memory nodes.new cells.new bytes.new)
         ≡ filled (memory nodes.old cells.old bytes.old) (payload n image.now) }
@@ -67,7 +72,7 @@ fn fill(nodes: &mut [u64], cells: &mut [u64], bytes: &mut [u8], image: &[u8], n:
     let mut key = [0u8; 256];
     let s = Filing {
         fields: card_fields::inside::at_first(),
-        added: Added::Done { resting: 0 },
+        added: Ok(0),
     };
     let t = card_filing::inside::enter_blocks(
         nodes, cells, bytes, &mut field, &mut key, s, image, n,
@@ -93,12 +98,12 @@ pub fn refill(
     let count = card_block::inside::word(image, 0) as usize;
     let added = fill(nodes, cells, bytes, image, n);
     match added {
-        Added::Done { resting: _ } => Loaded::Entries(count),
-        Added::TooFewNodes(lacking) => {
+        Ok(_) => Loaded::Entries(count),
+        Err(PutRefused::TooFewNodes(lacking)) => {
             empty(nodes, cells, bytes);
             Loaded::TooFewNodes(lacking)
         }
-        Added::Refused(why) => {
+        Err(PutRefused::Refused(why)) => {
             empty(nodes, cells, bytes);
             Loaded::Refused(why)
         }

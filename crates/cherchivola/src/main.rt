@@ -12,7 +12,8 @@ fn main(rt: HostRuntime) -> io::Result<()> {
     let mut nodes = [0u64; 3010];
     let mut cells = [0u64; 256];
     let mut bytes = [0u8; 32768];
-    index::clear(&mut nodes, &mut cells, &mut bytes);
+    // These lengths are right ones, so the clear is not refused.
+    let _ = index::clear(&mut nodes, &mut cells, &mut bytes);
     let ended = lines_session::answer_input(&mut from, &mut to, &mut nodes, &mut cells, &mut bytes);
     if let Ended::NotWritten = ended {
         eprintln!(rt; "cherchivola: output failed")?;

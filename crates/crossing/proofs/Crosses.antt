@@ -6,18 +6,13 @@ use mathlib.Core.Bool.{Bool, true, false, cond}
 use mathlib.Core.List.{List, [], ◌∷◌}
 use lib.Dec.{eqb}
 use borrow.Author.Tests.{ne_eqb}
+use Rattle.std.specs.Prelude.{Result, Ok, Err}
 use Rattle.refusal.specs.declared.Refusal.{Refusal}
 use Rattle.refusal.specs.Refusals.{number_of}
 use Rattle.refusal.specs.Answer.{Answer, accepted, refused}
 use Rattle.refusal.proofs.Laws.{number-pos}
-use Rattle.slot_answers.specs.declared.Changed.{Changed}
-use Rattle.slot_answers.specs.declared.Changed.TheVariants as C
-use Rattle.slot_answers.specs.declared.Inserted.{Inserted}
-use Rattle.slot_answers.specs.declared.Inserted.TheVariants as I
-use Rattle.slot_answers.specs.declared.Told.{Told}
-use Rattle.slot_answers.specs.declared.Told.TheVariants as T
-use Rattle.slot_answers.specs.declared.Made.{Made}
-use Rattle.slot_answers.specs.declared.Made.TheVariants as M
+use Rattle.slot_answers.specs.declared.Refused.{Refused}
+use Rattle.slot_answers.specs.declared.HandedOut.{HandedOut}
 use Rattle.permuter.specs.Answers.{said_changed, said_inserted, said_told, said_made}
 use Rattle.crossing.specs.Crossing.{written_if, Crossed}
 use Rattle.crossing.specs.Told.{CrossedBoth}
@@ -64,36 +59,35 @@ pub one-outcome-of-both : {a : Answer} {r r' : ℕ} {before after after' before-
     (r ≡ r') × (after ≡ after') × (after-told ≡ after-told')
 one-outcome-of-both h h' = (h.number ∙ sym h'.number, h.values ∙ sym h'.values, h.told ∙ sym h'.told)
 
-module _ {answer : Changed} where
-  pub changed-word : {new old : ℕ} → answer ≡ C.Word new → Crossed (said_changed answer) 0 (old ∷ []) (new ∷ [])
+module _ {answer : Result ℕ Refused} where
+  pub changed-word : {new old : ℕ} → answer ≡ Ok new → Crossed (said_changed answer) 0 (old ∷ []) (new ∷ [])
   changed-word e = rw e (record { number = refl; lent = refl })
 
-  pub changed-refused : {why : Refusal} {back old r : ℕ} → answer ≡ C.Refused why back → r ≡ number_of why →
+  pub changed-refused : {back : Refused} {old r : ℕ} → answer ≡ Err back → r ≡ number_of back.why →
       Crossed (said_changed answer) r (old ∷ []) (old ∷ [])
-  changed-refused {why} {back} {old} e n = rw e (refusal-crosses why (back ∷ []) (old ∷ []) n)
+  changed-refused {back} {old} e n = rw e (refusal-crosses back.why (back.word ∷ []) (old ∷ []) n)
 
-module _ {answer : Inserted} where
-  pub inserted-slot : {new slot left old before rested : ℕ} → answer ≡ I.Slot new slot left →
-      Crossed (said_inserted answer) 0 (old ∷ before ∷ rested ∷ []) (new ∷ slot ∷ left ∷ [])
-  inserted-slot e = rw e (record { number = refl; lent = refl })
-
-  pub inserted-refused : {why : Refusal} {back old before rested r : ℕ} → answer ≡ I.Refused why back → r ≡ number_of why →
-      Crossed (said_inserted answer) r (old ∷ before ∷ rested ∷ []) (old ∷ before ∷ rested ∷ [])
-  inserted-refused {why} {back} {old} {before} {rested} e n =
-      rw e (refusal-crosses why (back ∷ []) (old ∷ before ∷ rested ∷ []) n)
-
-module _ {answer : Told} where
-  pub told-number : {new old : ℕ} → answer ≡ T.Number new → Crossed (said_told answer) 0 (old ∷ []) (new ∷ [])
+  pub told-number : {new old : ℕ} → answer ≡ Ok new → Crossed (said_told answer) 0 (old ∷ []) (new ∷ [])
   told-number e = rw e (record { number = refl; lent = refl })
 
-  pub told-refused : {why : Refusal} {back old r : ℕ} → answer ≡ T.Refused why back → r ≡ number_of why →
+  pub told-refused : {back : Refused} {old r : ℕ} → answer ≡ Err back → r ≡ number_of back.why →
       Crossed (said_told answer) r (old ∷ []) (old ∷ [])
-  told-refused {why} {back} {old} e n = rw e (refusal-crosses why (back ∷ []) (old ∷ []) n)
+  told-refused {back} {old} e n = rw e (refusal-crosses back.why (back.word ∷ []) (old ∷ []) n)
 
-module _ {answer : Made} where
-  pub made_word : {new old : ℕ} → answer ≡ M.Word new → Crossed (said_made answer) 0 (old ∷ []) (new ∷ [])
+module _ {answer : Result HandedOut Refused} where
+  pub inserted-slot : {out : HandedOut} {old before rested : ℕ} → answer ≡ Ok out →
+      Crossed (said_inserted answer) 0 (old ∷ before ∷ rested ∷ []) (out.word ∷ out.slot ∷ out.resting ∷ [])
+  inserted-slot e = rw e (record { number = refl; lent = refl })
+
+  pub inserted-refused : {back : Refused} {old before rested r : ℕ} → answer ≡ Err back → r ≡ number_of back.why →
+      Crossed (said_inserted answer) r (old ∷ before ∷ rested ∷ []) (old ∷ before ∷ rested ∷ [])
+  inserted-refused {back} {old} {before} {rested} e n =
+      rw e (refusal-crosses back.why (back.word ∷ []) (old ∷ before ∷ rested ∷ []) n)
+
+module _ {answer : Result ℕ Refusal} where
+  pub made_word : {new old : ℕ} → answer ≡ Ok new → Crossed (said_made answer) 0 (old ∷ []) (new ∷ [])
   made_word e = rw e (record { number = refl; lent = refl })
 
-  pub made-refused : {why : Refusal} {old r : ℕ} → answer ≡ M.Refused why → r ≡ number_of why →
+  pub made-refused : {why : Refusal} {old r : ℕ} → answer ≡ Err why → r ≡ number_of why →
       Crossed (said_made answer) r (old ∷ []) (old ∷ [])
   made-refused {why} {old} e n = rw e (refusal-crosses why [] (old ∷ []) n)

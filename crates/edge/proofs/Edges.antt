@@ -8,31 +8,31 @@ use borrow.Author.Tests.{not-true, not-false, le-leb, lt-ltb}
 use lib.Dec.{leb, ltb, leb-suc-suc}
 use mir.Val.{Fits}
 use mir.Syntax.{w64}
-use Rattle.edge.specs.declared.Edge.{Edge}
+use Rattle.std.specs.Prelude.{Option, Some, None}
 use Rattle.edge.specs.Edges.{left_of, right_of}
 
-module _ (e : Edge) (ikey : ℕ) where
-  pub from-open : e.known ≡ false → true ≡ leb (left_of e) (suc ikey)
+module _ (e : Option ℕ) (ikey : ℕ) where
+  pub from-open : e ≡ None → true ≡ leb (left_of e) (suc ikey)
   from-open k = rw k (sym (le-leb 0 (suc ikey) (omega arith)))
 
-  pub from-known : e.known ≡ true → leb e.ikey ikey ≡ leb (left_of e) (suc ikey)
-  from-known k = rw k (sym (leb-suc-suc e.ikey ikey))
+  pub from-known : {left : ℕ} → e ≡ Some left → leb left ikey ≡ leb (left_of e) (suc ikey)
+  from-known {left} k = rw k (sym (leb-suc-suc left ikey))
 
-  pub before-open : Fits w64 ikey → e.known ≡ false → true ≡ ltb (suc ikey) (right_of e)
+  pub before-open : Fits w64 ikey → e ≡ None → true ≡ ltb (suc ikey) (right_of e)
   before-open f k = rw k (sym (lt-ltb (suc ikey) (suc (2 ^ 64)) (omega (arith, f.fits))))
 
-  pub before-known : e.known ≡ true → ltb ikey e.ikey ≡ ltb (suc ikey) (right_of e)
-  before-known k = rw k (sym (leb-suc-suc (suc ikey) e.ikey))
+  pub before-known : {right : ℕ} → e ≡ Some right → ltb ikey right ≡ ltb (suc ikey) (right_of e)
+  before-known {right} k = rw k (sym (leb-suc-suc (suc ikey) right))
 
-module _ (low high : Edge) where
-  pub between-open : low.known ≡ false → true ≡ ltb (left_of low) (right_of high)
-  between-open k = rw k (by high.known high.ikey)
+module _ (low high : Option ℕ) where
+  pub between-open : low ≡ None → true ≡ ltb (left_of low) (right_of high)
+  between-open k = rw k (by high)
     where
-      by : (b : Bool) (x : ℕ) → true ≡ ltb 0 (right_of (record { known = b; ikey = x }))
-      by true x = sym (lt-ltb 0 (suc x) (omega arith))
-      by false x = sym (lt-ltb 0 (suc (2 ^ 64)) (omega arith))
+      by : (e : Option ℕ) → true ≡ ltb 0 (right_of e)
+      by (Some x) = sym (lt-ltb 0 (suc x) (omega arith))
+      by None = sym (lt-ltb 0 (suc (2 ^ 64)) (omega arith))
 
-  pub between_known : {r : Bool} → low.known ≡ true → r ≡ ltb (suc low.ikey) (right_of high) → r ≡ ltb (left_of low) (right_of high)
+  pub between_known : {left : ℕ} {r : Bool} → low ≡ Some left → r ≡ ltb (suc left) (right_of high) → r ≡ ltb (left_of low) (right_of high)
   between_known k e = rw k e
 
 module _ (a b : Bool) where

@@ -1,31 +1,29 @@
-// Whether an ikey lies at or above a left edge and below a right one, for the walk.
+// Whether an ikey lies at or above a left edge and below a right one, for the walk. An edge is the ikey that stands there, where one does.
 ghost use Rattle.std.specs.Prelude.{◌≡◌, ◌&&◌, suc, leb, ltb};
 ghost use Rattle.edge.specs.Edges.{left_of, right_of};
 
-use crate::Edge;
-
 // Whether an ikey lies at or above the left edge.
-pub fn is_from(low: Edge, ikey: u64) -> bool
+pub fn is_from(low: Option<u64>, ikey: u64) -> bool
     ensures { result ≡ leb (left_of low) (suc ikey) }
 {
-    if !low.known {
-        return true;
+    match low {
+        None => true,
+        Some(left) => left <= ikey,
     }
-    low.ikey <= ikey
 }
 
 // Whether an ikey lies below the right edge.
-pub fn is_before(high: Edge, ikey: u64) -> bool
+pub fn is_before(high: Option<u64>, ikey: u64) -> bool
     ensures { result ≡ ltb (suc ikey) (right_of high) }
 {
-    if !high.known {
-        return true;
+    match high {
+        None => true,
+        Some(right) => ikey < right,
     }
-    ikey < high.ikey
 }
 
 // Whether an ikey lies at or above the left edge and below the right one.
-pub fn is_within(low: Edge, high: Edge, ikey: u64) -> bool
+pub fn is_within(low: Option<u64>, high: Option<u64>, ikey: u64) -> bool
     ensures { result ≡ (leb (left_of low) (suc ikey) && ltb (suc ikey) (right_of high)) }
 {
     if !is_from(low, ikey) {
@@ -35,11 +33,11 @@ pub fn is_within(low: Edge, high: Edge, ikey: u64) -> bool
 }
 
 // Whether the left edge lies strictly below the right one.
-pub fn is_between(low: Edge, high: Edge) -> bool
+pub fn is_between(low: Option<u64>, high: Option<u64>) -> bool
     ensures { result ≡ ltb (left_of low) (right_of high) }
 {
-    if !low.known {
-        return true;
+    match low {
+        None => true,
+        Some(left) => is_before(high, left),
     }
-    is_before(high, low.ikey)
 }

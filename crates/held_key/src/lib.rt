@@ -9,7 +9,7 @@ ghost use Rattle.key_layer.specs.Keys.{UnshiftAll, new_said, shift_said, shift_b
 ghost use Rattle.key_layer.specs.Said.{said_word, said_count, said_told, said_judged};
 ghost use Rattle.keys_held.specs.Held.{keyed_of, answer_of};
 
-use key_layer::{Count, Judged, Told, Word};
+use key_layer::Refused;
 pub use keys_held::{Key, Keyed};
 pub use keys_held_bytes::{full_data, len, suffix, suffix_start};
 pub use keys_held_compares::{compare, compare_suffix};
@@ -72,56 +72,56 @@ pub fn unshift_all<'a>(k: Key<'a>) -> Keyed<'a>
 // Questions: what the plain call answers is handed on.
 
 // The ikey at the key's layer.
-pub fn ikey<'a>(k: Key<'a>) -> Word
+pub fn ikey<'a>(k: Key<'a>) -> Result<u64, Refused>
     ensures { said_word result ≡ answer_of Ikey k.entry }
 {
     key_questions::ikey(k.bytes, k.ikey, k.shift_count, k.suffix_start)
 }
 
 // How often the key was shifted.
-pub fn shift_count<'a>(k: Key<'a>) -> Count
+pub fn shift_count<'a>(k: Key<'a>) -> Result<usize, Refused>
     ensures { said_count result ≡ answer_of ShiftCount k.entry }
 {
     key_questions::shift_count(k.bytes, k.ikey, k.shift_count, k.suffix_start)
 }
 
 // The length from the key's layer on.
-pub fn current_len<'a>(k: Key<'a>) -> Count
+pub fn current_len<'a>(k: Key<'a>) -> Result<usize, Refused>
     ensures { said_count result ≡ answer_of CurrentLen k.entry }
 {
     keys_lengths::current_len(k.bytes, k.ikey, k.shift_count, k.suffix_start)
 }
 
 // Whether the key has no byte at all.
-pub fn is_empty<'a>(k: Key<'a>) -> Told
+pub fn is_empty<'a>(k: Key<'a>) -> Result<bool, Refused>
     ensures { said_told result ≡ answer_of IsEmpty k.entry }
 {
     keys_told::is_empty(k.bytes, k.ikey, k.shift_count, k.suffix_start)
 }
 
 // Whether the key was shifted.
-pub fn is_shifted<'a>(k: Key<'a>) -> Told
+pub fn is_shifted<'a>(k: Key<'a>) -> Result<bool, Refused>
     ensures { said_told result ≡ answer_of IsShifted k.entry }
 {
     keys_told::is_shifted(k.bytes, k.ikey, k.shift_count, k.suffix_start)
 }
 
 // Whether more than eight bytes are left at the key's layer.
-pub fn has_suffix<'a>(k: Key<'a>) -> Told
+pub fn has_suffix<'a>(k: Key<'a>) -> Result<bool, Refused>
     ensures { said_told result ≡ answer_of HasSuffix k.entry }
 {
     keys_told::has_suffix(k.bytes, k.ikey, k.shift_count, k.suffix_start)
 }
 
 // The length of the suffix.
-pub fn suffix_len<'a>(k: Key<'a>) -> Count
+pub fn suffix_len<'a>(k: Key<'a>) -> Result<usize, Refused>
     ensures { said_count result ≡ answer_of SuffixLen k.entry }
 {
     keys_lengths::suffix_len(k.bytes, k.ikey, k.shift_count, k.suffix_start)
 }
 
 // Whether the numbers fit the bytes: what every call decides first.
-pub fn judge<'a>(k: Key<'a>) -> Judged
+pub fn judge<'a>(k: Key<'a>) -> Result<(), Refused>
     ensures { said_judged result ≡ answer_of Judge k.entry }
 {
     keys_made::judge(k.bytes, k.ikey, k.shift_count, k.suffix_start)

@@ -16,17 +16,17 @@ module _ {byte : ℕ} where
   unfolding digit_of
   before-0 h = rw (lt-ltb byte 48 h) refl
 
-  pub to-9 : 48 ≤ byte → byte ≤ 57 → byte - 48 ≡ digit_of byte
+  pub to-9 : 48 ≤ byte → byte < 58 → byte - 48 ≡ digit_of byte
   unfolding digit_of
-  to-9 h k = rw (le-ltb byte 48 h, le-leb byte 57 k) refl
+  to-9 h k = rw (le-ltb byte 48 h, le-leb byte 57 (omega arith)) refl
 
   pub before-a : 48 ≤ byte → 57 < byte → byte < 97 → 0 ≡ digit_of byte
   unfolding digit_of
   before-a h k l = rw (le-ltb byte 48 h, lt-leb byte 57 k, lt-ltb byte 97 l) refl
 
-  pub to-f : 48 ≤ byte → 57 < byte → 97 ≤ byte → byte ≤ 102 → byte - 97 + 10 ≡ digit_of byte
+  pub to-f : 48 ≤ byte → 57 < byte → 97 ≤ byte → byte < 103 → byte - 97 + 10 ≡ digit_of byte
   unfolding digit_of
-  to-f h k l m = rw (le-ltb byte 48 h, lt-leb byte 57 k, le-ltb byte 97 l, le-leb byte 102 m) refl
+  to-f h k l m = rw (le-ltb byte 48 h, lt-leb byte 57 k, le-ltb byte 97 l, le-leb byte 102 (omega arith)) refl
 
   pub past-f : 48 ≤ byte → 57 < byte → 97 ≤ byte → 102 < byte → 0 ≡ digit_of byte
   unfolding digit_of

@@ -8,32 +8,22 @@ ghost use Rattle.hex_digits.specs.Digits.{digit_of, hex_at};
 fn digit(byte: u8) -> u64
     ensures { result ≡ digit_of byte }
 {
-    if byte < b'0' {
-        return 0;
+    match byte {
+        b'0'..=b'9' => (byte - b'0') as u64,
+        b'a'..=b'f' => (byte - b'a' + 10) as u64,
+        _ => 0,
     }
-    if byte <= b'9' {
-        return (byte - b'0') as u64;
-    }
-    if byte < b'a' {
-        return 0;
-    }
-    if byte <= b'f' {
-        return (byte - b'a' + 10) as u64;
-    }
-    0
 }
 
 // The value of the digit that stands k places behind another.
 fn digit_at(text: &[u8], from: usize, k: usize) -> u64
     ensures { result ≡ digit_of (get_or text.now (from + k) 0) }
 {
-    if text.len() <= from {
-        return 0;
+    if from < text.len() && k < text.len() - from {
+        digit(text[from + k])
+    } else {
+        0
     }
-    if text.len() - from <= k {
-        return 0;
-    }
-    digit(text[from + k])
 }
 
 // The number that so many digits spell, from a place on.
@@ -42,11 +32,9 @@ fn number(text: &[u8], from: usize, digits: usize) -> u64
     ensures { (result ≡ hex_at text.now from digits) × (result < 16 ^ digits) }
 {
     let mut value: u64 = 0;
-    let mut k: usize = 0;
     // `value` is the number that the first k digits spell.
-    while k < digits {
+    for k in 0..digits {
         value = value * 16 + digit_at(text, from, k);
-        k += 1;
     }
     value
 }

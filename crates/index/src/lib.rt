@@ -8,11 +8,11 @@ ghost use Rattle.arena.specs.Memory.{memory, did};
 ghost use Rattle.model.specs.Calls.{put_done};
 ghost use Rattle.index.specs.Answers.{said_added};
 
-pub use arena::{Cleared, clear};
-pub use index_count::{Counted, count};
-pub use index_put::Added;
-pub use index_questions::{Found, Listed, find, kth};
-pub use index_remove::{Removed, remove};
+pub use arena::clear;
+pub use index_count::count;
+pub use index_put::PutRefused;
+pub use index_questions::{Listed, find, kth};
+pub use index_remove::remove;
 use memory_layout::CELL_BYTES;
 use refusal::Refusal;
 
@@ -20,15 +20,21 @@ use refusal::Refusal;
 const LONGEST: usize = CELL_BYTES;
 
 // Stores a new key with its frame number, and counts it.
-pub fn put(nodes: &mut [u64], cells: &mut [u64], bytes: &mut [u8], key: &[u8], frame: u64) -> Added
+pub fn put(
+    nodes: &mut [u64],
+    cells: &mut [u64],
+    bytes: &mut [u8],
+    key: &[u8],
+    frame: u64,
+) -> Result<usize, PutRefused>
     ensures { did (said_added result) (memory nodes.new cells.new bytes.new)
         ≡ put_done (memory nodes.old cells.old bytes.old) key.now frame }
 {
     if LONGEST < key.len() {
-        return Added::Refused(Refusal::Key);
+        return Err(PutRefused::Refused(Refusal::Key));
     }
     if !audit::is_tree(nodes, cells, bytes) {
-        return Added::Refused(Refusal::Memory);
+        return Err(PutRefused::Refused(Refusal::Memory));
     }
     index_put::inside::put_lent(nodes, cells, bytes, key, frame)
 }

@@ -6,22 +6,12 @@ ghost use Rattle.arena.specs.Memory.{memory};
 ghost use Rattle.model.specs.Calls.{count_said};
 ghost use Rattle.index_count.specs.Answers.{said_counted};
 
-use arena::Measured;
 use refusal::Refusal;
 
-// The number of entries, or 10.
-#[derive(Clone, Copy)]
-pub enum Counted {
-    Entries(u64),
-    Refused(Refusal),
-}
-
 // The number of entries as it is stored; refusal 10 for wrong lent lengths only.
-pub fn count(nodes: &[u64], cells: &[u64], bytes: &[u8]) -> Counted
+pub fn count(nodes: &[u64], cells: &[u64], bytes: &[u8]) -> Result<u64, Refusal>
     ensures { said_counted result ≡ count_said (memory nodes.now cells.now bytes.now) }
 {
-    let Measured::Fit { nodes: _, cells: _ } = arena::lengths(nodes, cells, bytes) else {
-        return Counted::Refused(Refusal::Memory);
-    };
-    Counted::Entries(nodes[1])
+    arena::lengths(nodes, cells, bytes)?;
+    Ok(nodes[1])
 }

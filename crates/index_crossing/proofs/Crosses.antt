@@ -3,28 +3,17 @@
 use Prim.Native.Nat.{ℕ}
 use mathlib.Core.Path.{◌≡◌, refl, sym, subst, ap, ◌∙◌}
 use mathlib.Core.List.{List, [], ◌∷◌}
+use Rattle.std.specs.Prelude.{Result, Ok, Err}
 use Rattle.refusal.specs.declared.Refusal.{Refusal}
 use Rattle.refusal.specs.Refusals.{number_of}
 use Rattle.refusal.specs.Answer.{Answer}
-use Rattle.arena.specs.declared.Cleared.{Cleared}
-use Rattle.arena.specs.declared.Cleared.TheVariants as cleared-is
-use Rattle.arena.specs.declared.Measured.{Measured}
-use Rattle.arena.specs.declared.Measured.TheVariants as measured-is
+use Rattle.arena.specs.declared.Fit.{Fit}
 use Rattle.arena.specs.Memory.{Memory, Did, did, said_cleared, said_measured}
-use Rattle.audit.specs.declared.Audited.{Audited}
-use Rattle.audit.specs.declared.Audited.TheVariants as audited-is
 use Rattle.audit.specs.Audit.{said_audited}
-use Rattle.index_put.specs.declared.Added.{Added}
-use Rattle.index_put.specs.declared.Added.TheVariants as added_is
-use Rattle.index_remove.specs.declared.Removed.{Removed}
-use Rattle.index_remove.specs.declared.Removed.TheVariants as removed-is
-use Rattle.index_questions.specs.declared.Found.{Found}
-use Rattle.index_questions.specs.declared.Found.TheVariants as found-is
+use Rattle.index_put.specs.declared.PutRefused.{PutRefused}
+use Rattle.index_put.specs.declared.PutRefused.TheVariants as put_no
 use Rattle.index_questions.specs.declared.Listed.{Listed}
-use Rattle.index_questions.specs.declared.Listed.TheVariants as listed-is
 use Rattle.index.specs.Answers.{said_added, said_removed, said_found, said_listed}
-use Rattle.index_count.specs.declared.Counted.{Counted}
-use Rattle.index_count.specs.declared.Counted.TheVariants as counted_is
 use Rattle.index_count.specs.Answers.{said_counted}
 use Rattle.crossing.specs.Crossing.{Crossed}
 use Rattle.crossing.specs.Told.{CrossedBoth}
@@ -41,11 +30,11 @@ done-crosses {a} {m} {r = r} e h =
 pub one-lent-outcome : {d : Did} {r r' : ℕ} {m m' : Memory} → CrossedLent d r m → CrossedLent d r' m' → (r ≡ r') × (m ≡ m')
 one-lent-outcome h h' = (h.number ∙ sym h'.number, h.lent ∙ sym h'.lent)
 
-module _ {answer : Cleared} where
-  pub cleared-done : answer ≡ cleared-is.Done → Crossed (said_cleared answer) 0 [] []
+module _ {answer : Result (Unit {0}) Refusal} where
+  pub cleared-done : {u : Unit {0}} → answer ≡ Ok u → Crossed (said_cleared answer) 0 [] []
   cleared-done e = rw e (record { number = refl; lent = refl })
 
-  pub cleared-refused : {why : Refusal} {r : ℕ} → answer ≡ cleared-is.Refused why → r ≡ number_of why →
+  pub cleared-refused : {why : Refusal} {r : ℕ} → answer ≡ Err why → r ≡ number_of why →
       Crossed (said_cleared answer) r [] []
   cleared-refused {why} e n = rw e (refusal-crosses why [] [] n)
 
@@ -63,65 +52,65 @@ pub one-both-outcome : {d : Did} {r r' : ℕ} {m m' : Memory} {before after afte
 one-both-outcome h h' =
     (h.number ∙ sym h'.number, h.lent ∙ sym h'.lent, h.values ∙ sym h'.values, h.told ∙ sym h'.told)
 
-module _ {answer : Added} {resting lacking : ℕ} where
-  pub added-done : {n : ℕ} → answer ≡ added_is.Done n →
+module _ {answer : Result ℕ PutRefused} {resting lacking : ℕ} where
+  pub added-done : {n : ℕ} → answer ≡ Ok n →
       CrossedBoth (said_added answer) 0 (resting ∷ []) (n ∷ []) (lacking ∷ []) (lacking ∷ [])
   added-done e = rw e (record { number = refl; values = refl; told = refl })
 
-  pub added-few : {n : ℕ} → answer ≡ added_is.TooFewNodes n →
+  pub added-few : {why : PutRefused} {n : ℕ} → answer ≡ Err why → why ≡ put_no.TooFewNodes n →
       CrossedBoth (said_added answer) 14 (resting ∷ []) (resting ∷ []) (lacking ∷ []) (n ∷ [])
-  added-few e = rw e (record { number = refl; values = refl; told = refl })
+  added-few e n = rw (e, n) (record { number = refl; values = refl; told = refl })
 
-  pub added-refused : {why : Refusal} {r : ℕ} → answer ≡ added_is.Refused why → r ≡ number_of why →
+  pub added-refused : {no : PutRefused} {why : Refusal} {r : ℕ} → answer ≡ Err no → no ≡ put_no.Refused why → r ≡ number_of why →
       CrossedBoth (said_added answer) r (resting ∷ []) (resting ∷ []) (lacking ∷ []) (lacking ∷ [])
-  added-refused {why} e n = rw e (refusal-leaves-both why (resting ∷ []) (lacking ∷ []) n)
+  added-refused {why = why} e w n = rw (e, w) (refusal-leaves-both why (resting ∷ []) (lacking ∷ []) n)
 
-module _ {answer : Removed} where
-  pub removed-done : answer ≡ removed-is.Done → Crossed (said_removed answer) 0 [] []
+module _ {answer : Result (Unit {0}) Refusal} where
+  pub removed-done : {u : Unit {0}} → answer ≡ Ok u → Crossed (said_removed answer) 0 [] []
   removed-done e = rw e (record { number = refl; lent = refl })
 
-  pub removed-refused : {why : Refusal} {r : ℕ} → answer ≡ removed-is.Refused why → r ≡ number_of why →
+  pub removed-refused : {why : Refusal} {r : ℕ} → answer ≡ Err why → r ≡ number_of why →
       Crossed (said_removed answer) r [] []
   removed-refused {why} e n = rw e (refusal-crosses why [] [] n)
 
-module _ {answer : Audited} where
-  pub audited-tree : answer ≡ audited-is.Tree → Crossed (said_audited answer) 0 [] []
+module _ {answer : Result (Unit {0}) Refusal} where
+  pub audited-tree : {u : Unit {0}} → answer ≡ Ok u → Crossed (said_audited answer) 0 [] []
   audited-tree e = rw e (record { number = refl; lent = refl })
 
-  pub audited-refused : {why : Refusal} {r : ℕ} → answer ≡ audited-is.Refused why → r ≡ number_of why →
+  pub audited-refused : {why : Refusal} {r : ℕ} → answer ≡ Err why → r ≡ number_of why →
       Crossed (said_audited answer) r [] []
   audited-refused {why} e n = rw e (refusal-crosses why [] [] n)
 
-module _ {answer : Measured} where
-  pub measured-fit : {n c before also : ℕ} → answer ≡ measured-is.Fit n c →
-      Crossed (said_measured answer) 0 (before ∷ also ∷ []) (n ∷ c ∷ [])
+module _ {answer : Result Fit Refusal} where
+  pub measured-fit : {fit : Fit} {before also : ℕ} → answer ≡ Ok fit →
+      Crossed (said_measured answer) 0 (before ∷ also ∷ []) (fit.nodes ∷ fit.cells ∷ [])
   measured-fit e = rw e (record { number = refl; lent = refl })
 
-  pub measured-refused : {why : Refusal} {before also r : ℕ} → answer ≡ measured-is.Refused why → r ≡ number_of why →
+  pub measured-refused : {why : Refusal} {before also r : ℕ} → answer ≡ Err why → r ≡ number_of why →
       Crossed (said_measured answer) r (before ∷ also ∷ []) (before ∷ also ∷ [])
   measured-refused {why} {before} {also} e n = rw e (refusal-crosses why [] (before ∷ also ∷ []) n)
 
-module _ {answer : Found} where
-  pub found-frame : {frame before : ℕ} → answer ≡ found-is.Frame frame → Crossed (said_found answer) 0 (before ∷ []) (frame ∷ [])
+module _ {answer : Result ℕ Refusal} where
+  pub found-frame : {frame before : ℕ} → answer ≡ Ok frame → Crossed (said_found answer) 0 (before ∷ []) (frame ∷ [])
   found-frame e = rw e (record { number = refl; lent = refl })
 
-  pub found-refused : {why : Refusal} {before r : ℕ} → answer ≡ found-is.Refused why → r ≡ number_of why →
+  pub found-refused : {why : Refusal} {before r : ℕ} → answer ≡ Err why → r ≡ number_of why →
       Crossed (said_found answer) r (before ∷ []) (before ∷ [])
   found-refused {why} {before} e n = rw e (refusal-crosses why [] (before ∷ []) n)
 
-module _ {answer : Counted} where
-  pub counted-entries : {count before : ℕ} → answer ≡ counted_is.Entries count → Crossed (said_counted answer) 0 (before ∷ []) (count ∷ [])
+module _ {answer : Result ℕ Refusal} where
+  pub counted-entries : {count before : ℕ} → answer ≡ Ok count → Crossed (said_counted answer) 0 (before ∷ []) (count ∷ [])
   counted-entries e = rw e (record { number = refl; lent = refl })
 
-  pub counted-refused : {why : Refusal} {before r : ℕ} → answer ≡ counted_is.Refused why → r ≡ number_of why →
+  pub counted-refused : {why : Refusal} {before r : ℕ} → answer ≡ Err why → r ≡ number_of why →
       Crossed (said_counted answer) r (before ∷ []) (before ∷ [])
   counted-refused {why} {before} e n = rw e (refusal-crosses why [] (before ∷ []) n)
 
-module _ {answer : Listed} where
-  pub listed-entry : {cell length frame a b c : ℕ} → answer ≡ listed-is.Entry cell length frame →
-      Crossed (said_listed answer) 0 (a ∷ b ∷ c ∷ []) (cell ∷ length ∷ frame ∷ [])
+module _ {answer : Result Listed Refusal} where
+  pub listed-entry : {entry : Listed} {a b c : ℕ} → answer ≡ Ok entry →
+      Crossed (said_listed answer) 0 (a ∷ b ∷ c ∷ []) (entry.cell ∷ entry.length ∷ entry.frame ∷ [])
   listed-entry e = rw e (record { number = refl; lent = refl })
 
-  pub listed-refused : {why : Refusal} {a b c r : ℕ} → answer ≡ listed-is.Refused why → r ≡ number_of why →
+  pub listed-refused : {why : Refusal} {a b c r : ℕ} → answer ≡ Err why → r ≡ number_of why →
       Crossed (said_listed answer) r (a ∷ b ∷ c ∷ []) (a ∷ b ∷ c ∷ [])
   listed-refused {why} {a} {b} {c} e n = rw e (refusal-crosses why [] (a ∷ b ∷ c ∷ []) n)

@@ -6,7 +6,7 @@ ghost use Rattle.arena.specs.Memory.{memory, did, right_lengths};
 ghost use Rattle.model.specs.Calls.{put_lent};
 ghost use Rattle.index_put.specs.Answers.{said_added};
 
-use crate::Added;
+use crate::PutRefused;
 use memory_layout::MOST_LENT;
 use model::Met;
 use refusal::Refusal;
@@ -18,13 +18,13 @@ pub fn put_lent(
     bytes: &mut [u8],
     key: &[u8],
     frame: u64,
-) -> Added
+) -> Result<usize, PutRefused>
     requires { (right_lengths (length nodes.old) (length cells.old) (length bytes.old) ≡ true) × (length key.now ≤ cell_bytes) }
     ensures { did (said_added result) (memory nodes.new cells.new bytes.new)
         ≡ put_lent (memory nodes.old cells.old bytes.old) key.now frame }
 {
     if (MOST_LENT as u64) < nodes[1] {
-        return Added::Refused(Refusal::Memory);
+        return Err(PutRefused::Refused(Refusal::Memory));
     }
     let met = seek::inside::seek(nodes, cells, bytes, key, 0, 0, nodes[0]);
     if let Met::Stored {
@@ -33,15 +33,15 @@ pub fn put_lent(
         cell: _,
     } = met
     {
-        return Added::Refused(Refusal::Stored);
+        return Err(PutRefused::Refused(Refusal::Stored));
     }
     if !store::inside::has_cell(cells) {
-        return Added::Refused(Refusal::Room);
+        return Err(PutRefused::Refused(Refusal::Room));
     }
     let lacking = store::inside::lacking(nodes, cells, bytes, key, met);
     if 0 < lacking {
-        return Added::TooFewNodes(lacking as u64);
+        return Err(PutRefused::TooFewNodes(lacking as u64));
     }
     let resting = store::inside::put_counted(nodes, cells, bytes, key, frame, met);
-    Added::Done { resting }
+    Ok(resting)
 }

@@ -3,14 +3,23 @@
 
 pub mod inside;
 
+ghost use Rattle.std.specs.Prelude.{◌≡◌};
+ghost use Rattle.index_put.specs.declared.PutRefused.TheVariants.{Refused};
+
 use refusal::Refusal;
 
-// What a put answers.
+// Why a put is refused. One that is made answers how many slots rest in the leaf where the key is now.
 #[derive(Clone, Copy)]
-pub enum Added {
-    // so many slots rest in the leaf where the key is now
-    Done { resting: usize },
+pub enum PutRefused {
     // 14: so many nodes fewer are free than the put needs
     TooFewNodes(u64),
     Refused(Refusal),
+}
+
+impl From<Refusal> for PutRefused {
+    ghost from_gives = { λ why e. e ≡ Refused why };
+
+    fn from(why: Refusal) -> PutRefused {
+        PutRefused::Refused(why)
+    }
 }

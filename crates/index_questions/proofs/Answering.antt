@@ -9,9 +9,10 @@ use types.Run.{OneOf}
 use borrow.Author.Tests.{le-leb, lt-leb}
 use lib.Dec.{ltb}
 use lib.ListN.{length, get_or}
+use Rattle.std.specs.Prelude.{Ok}
 use Rattle.refusal.specs.Answer.{accepted, refused}
 use Rattle.refusal.specs.declared.Refusal.TheVariants as no
-use Rattle.arena.specs.Layout.{mark_at, frame_at}
+use Rattle.arena.specs.Layout.{frame_at}
 use Rattle.arena.specs.Memory.{memory}
 use Rattle.forest.specs.Walk.{is_tree}
 use Rattle.model.specs.declared.Met.{Met}
@@ -23,8 +24,7 @@ use Rattle.model.specs.Listed.{cells_of_layer, reach}
 use Rattle.model.specs.Calls.{find_said, kth_said}
 use Rattle.model.specs.contracts.Met as met
 use Rattle.index_questions.specs.declared.Listed.{Listed}
-use Rattle.index_questions.specs.declared.Listed.TheVariants.{Entry}
-use Rattle.index_questions.specs.Answers.{said_listed}
+use Rattle.index_questions.specs.Answers.{said_listed, listed_at}
 use Rattle.index_questions.proofs.Lent.{lents, tag-other}
 
 -- ---- find
@@ -76,8 +76,8 @@ module _ (nodes cells bytes : List ℕ) (k : ℕ) {t : Bool} (e : t ≡ is_tree 
         by true q = absurd (let z : ◌≡◌ {A = ℕ} 0 1 = cc in omega arith)
         by false q = refl
 
-    pub kth-here : {c : ℕ} → r ≡ Here c → {l : Listed} → l ≡ Entry c (mark_at cells c - 1) (frame_at cells c)
-        → said_listed l ≡ kth_said (memory nodes cells bytes) k
+    pub kth-here : {c : ℕ} → r ≡ Here c → {l : Listed} → l ≡ listed_at cells c
+        → said_listed (Ok l) ≡ kth_said (memory nodes cells bytes) k
     unfolding kth_said
     kth-here h d = let (b, x) = here h in rw (← e, y, b, ← x, d)
 

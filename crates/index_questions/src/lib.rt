@@ -16,29 +16,23 @@ use refusal::Refusal;
 // The most bytes that a key has.
 const LONGEST: usize = CELL_BYTES;
 
-// The frame number of a key.
-#[derive(Clone, Copy)]
-pub enum Found {
-    Frame(u64),
-    Refused(Refusal),
-}
-
 // The k-th entry: its cell, the length of its key, its frame number. The key's bytes are the caller's own, in that cell.
 #[derive(Clone, Copy)]
-pub enum Listed {
-    Entry { cell: u64, length: u64, frame: u64 },
-    Refused(Refusal),
+pub struct Listed {
+    pub cell: u64,
+    pub length: u64,
+    pub frame: u64,
 }
 
 // The frame number stored with a key.
-pub fn find(nodes: &[u64], cells: &[u64], bytes: &[u8], key: &[u8]) -> Found
+pub fn find(nodes: &[u64], cells: &[u64], bytes: &[u8], key: &[u8]) -> Result<u64, Refusal>
     ensures { said_found result ≡ find_said (memory nodes.now cells.now bytes.now) key.now }
 {
     if LONGEST < key.len() {
-        return Found::Refused(Refusal::Key);
+        return Err(Refusal::Key);
     }
     if !audit::is_tree(nodes, cells, bytes) {
-        return Found::Refused(Refusal::Memory);
+        return Err(Refusal::Memory);
     }
     let met = seek::inside::seek(nodes, cells, bytes, key, 0, 0, nodes[0]);
     if let Met::Stored {
@@ -48,21 +42,21 @@ pub fn find(nodes: &[u64], cells: &[u64], bytes: &[u8], key: &[u8]) -> Found
     } = met
     {
         let frame = arena::inside::frame(cells, cell as usize);
-        return Found::Frame(frame);
+        return Ok(frame);
     }
-    Found::Refused(Refusal::Missing)
+    Err(Refusal::Missing)
 }
 
 // The k-th entry in key order.
-pub fn kth(nodes: &[u64], cells: &[u64], bytes: &[u8], k: u64) -> Listed
+pub fn kth(nodes: &[u64], cells: &[u64], bytes: &[u8], k: u64) -> Result<Listed, Refusal>
     ensures { said_listed result ≡ kth_said (memory nodes.now cells.now bytes.now) k }
 {
     if !audit::is_tree(nodes, cells, bytes) {
-        return Listed::Refused(Refusal::Memory);
+        return Err(Refusal::Memory);
     }
     let reached = seek::inside::kth_layer(nodes, 0, nodes[0], k);
     if let Reached::Here(cell) = reached {
-        return entries::entry_at(cells, cell);
+        return Ok(entries::entry_at(cells, cell));
     }
-    Listed::Refused(Refusal::Missing)
+    Err(Refusal::Missing)
 }

@@ -19,13 +19,6 @@ const LONGEST: usize = CELL_BYTES;
 // The most links on the way to a key.
 const MOST_LINKS: usize = 31;
 
-// What a removal answers.
-#[derive(Clone, Copy)]
-pub enum Removed {
-    Done,
-    Refused(Refusal),
-}
-
 // Takes the entry at a position of a leaf away, and counts one less.
 fn take_counted(nodes: &mut [u64], leaf: usize, position: usize)
     requires { (length nodes.old ≤ most_node_words) × (leaf < most_lent) × (position < 15) × (1 < length nodes.old) }
@@ -47,15 +40,20 @@ fn one_less(n: u64) -> u64
 }
 
 // Takes a key away: its entry goes, its cell is free again, one entry less is counted, and layers that this leaves empty are given back.
-pub fn remove(nodes: &mut [u64], cells: &mut [u64], bytes: &mut [u8], key: &[u8]) -> Removed
+pub fn remove(
+    nodes: &mut [u64],
+    cells: &mut [u64],
+    bytes: &mut [u8],
+    key: &[u8],
+) -> Result<(), Refusal>
     ensures { did (said_removed result) (memory nodes.new cells.new bytes.new)
         ≡ removed (memory nodes.old cells.old bytes.old) key.now }
 {
     if LONGEST < key.len() {
-        return Removed::Refused(Refusal::Key);
+        return Err(Refusal::Key);
     }
     if !audit::is_tree(nodes, cells, bytes) {
-        return Removed::Refused(Refusal::Memory);
+        return Err(Refusal::Memory);
     }
     let met = seek::inside::seek(nodes, cells, bytes, key, 0, 0, nodes[0]);
     if let Met::Stored {
@@ -67,7 +65,7 @@ pub fn remove(nodes: &mut [u64], cells: &mut [u64], bytes: &mut [u8], key: &[u8]
         take_counted(nodes, leaf as usize, position);
         arena::inside::free_cell(cells, bytes, cell as usize);
         index_empty_layers::inside::give_back(nodes, cells, bytes, key, MOST_LINKS);
-        return Removed::Done;
+        return Ok(());
     }
-    Removed::Refused(Refusal::Missing)
+    Err(Refusal::Missing)
 }

@@ -10,8 +10,7 @@ use Rattle.bank.specs.Calls.{remove}
 use Rattle.permuter.specs.Words.{changed}
 use Rattle.leaf_entries.specs.declared.Entry.{Entry}
 use Rattle.leaf.specs.Leaf.{none, slots_of}
-use Rattle.lent_nodes.specs.declared.inside.Lowest.{Lowest}
-use Rattle.lent_nodes.specs.declared.inside.Lowest.TheVariants.{At, Nothing}
+use Rattle.std.specs.Prelude.{Option, Some, None}
 use Rattle.arena.specs.Layout.{word_at, node_start}
 use Rattle.arena.specs.Free.{free_nodes, lowest}
 use Rattle.lent_nodes.proofs.Counts.{lowest-first, lowest-none, lowest-free}
@@ -23,15 +22,15 @@ put-past ws at w h = sym (set_out ws at w h)
 
 -- ---- the lowest free node
 
-module _ (nodes : List ℕ) (count : ℕ) {r : Lowest} (e : r ≡ lowest (free_nodes nodes count)) where
-  pub fresh_at : {k : ℕ} → r ≡ At k → k ≡ fresh_node nodes count
+module _ (nodes : List ℕ) (count : ℕ) {r : Option ℕ} (e : r ≡ lowest (free_nodes nodes count)) where
+  pub fresh_at : {k : ℕ} → r ≡ Some k → k ≡ fresh_node nodes count
   fresh_at a =
       let (rest, q) = lowest-first (free_nodes nodes count) (sym e ∙ a) in sym (ap (λ (ks : List ℕ). get_or ks 0 0) q)
 
-  pub fresh-none : r ≡ Nothing → 0 ≡ fresh_node nodes count
+  pub fresh-none : r ≡ None → 0 ≡ fresh_node nodes count
   fresh-none a = sym (ap (λ (ks : List ℕ). get_or ks 0 0) (lowest-none (free_nodes nodes count) (sym e ∙ a)))
 
-  pub fresh-lt : {k : ℕ} → r ≡ At k → k < count
+  pub fresh-lt : {k : ℕ} → r ≡ Some k → k < count
   fresh-lt a = (lowest-free node_start nodes count (sym e ∙ a)).in-range
 
 -- ---- entries

@@ -4,7 +4,6 @@ ghost use Rattle.memory_layout.specs.Numbers.{most_node_words};
 ghost use Rattle.arena.specs.Layout.{node_start};
 ghost use Rattle.model.specs.Leaves.{fresh_node, entry_put, entry_taken};
 
-use arena::inside::Lowest;
 use leaf::Entry;
 use memory_layout::{CLASSES, HEADER_WORDS, IKEYS, NODE_WORDS, REFS};
 use node_words::inside::{slot_of, word_of};
@@ -25,7 +24,7 @@ pub fn lowest(nodes: &[u64], count: usize) -> usize
     requires { (node_start count ≡ length nodes.now) × (1 ≤ count) }
     ensures { (result ≡ fresh_node nodes.now count) × (result < count) }
 {
-    let Lowest::At(k) = arena::inside::lowest_free_node(nodes, count) else {
+    let Some(k) = arena::inside::lowest_free_node(nodes, count) else {
         return 0;
     };
     k

@@ -1,52 +1,39 @@
 -- One law for each way in which a call on an internode returns. Assumes nothing.
-use mathlib.Core.Path.{◌≡◌, sym, ◌∙◌}
-use mathlib.Core.Bool.{Bool, true, false, not}
-use mathlib.Core.List.{[], ◌∷◌}
+use mathlib.Core.Path.{◌≡◌, sym}
+use mathlib.Core.Bool.{Bool, true, false, cond}
+use mathlib.Core.List.{List, [], ◌∷◌}
 use Prim.Native.Nat.{ℕ, ◌≤◌, ◌<◌, compare}
-use borrow.Author.Rules.{rules}
-use borrow.Author.Tests.{not-true, not-false, lt-leb, le-leb, lt-ltb, le-ltb}
+use borrow.Author.Tests.{le-leb, lt-ltb, le-ltb}
 use lib.ListN.{get_or}
-use Rattle.refusal.specs.Answer.{accepted, refused}
-use Rattle.refusal.specs.declared.Refusal.TheVariants.{Node, Position, Full, Order}
+use Rattle.refusal.specs.Answer.{Rule, accepted, refused, refused_telling, answered}
+use Rattle.refusal.specs.declared.Refusal.{Refusal}
+use Rattle.refusal.proofs.One.{no-refusal}
+use Rattle.refusal.specs.declared.Refusal.TheVariants.{Node, Position}
 use Rattle.ikey.specs.Said.{place, said_ordering}
-use Rattle.ikey.specs.declared.Ordering.{Ordering as Ordered}
+use Rattle.std.specs.declared.cmp.Ordering.{Ordering as Ordered}
 use Rattle.internode_places.specs.declared.Internode.{Internode}
-use Rattle.internode.specs.Lists.{rising, inserted_at}
-use Rattle.internode.specs.Node.{good, keys_of, insert_position, child_place, inserted, numbers}
-use Rattle.internode.specs.Calls.{find_said, compare_said, child_said, insert_said}
-use Rattle.internode_places.proofs.Judgement.{good-n}
+use Rattle.internode.specs.Node.{good, insert_position, child_place, inserted, numbers}
+use Rattle.internode.specs.Calls.{find_said, compare_said, child_said, insert_rules, Insertable, insert_said}
+pub use Rattle.internode_places.proofs.Judgement.{good-n}
 
 -- ---- a node that the judgement refuses
 
-module _ (x : Internode) {g : Bool} (e : g ≡ good x) (t : not g ≡ true) where
-  bad : good x ≡ false
-  bad = sym e ∙ not-true g t
-
-  pub find-node : (target : ℕ) → refused Node [] ≡ find_said x target
+module _ (x : Internode) {why : Refusal} (h : (why ≡ Node) × (good x ≡ false)) where
+  pub find-node : (target : ℕ) → refused why [] ≡ find_said x target
   unfolding find_said
-  find-node target = rw bad
+  find-node target = rw (h.0, h.1)
 
-  pub compare-node : (target p : ℕ) → refused Node [] ≡ compare_said x target p
+  pub compare-node : (target p : ℕ) → refused why [] ≡ compare_said x target p
   unfolding compare_said
-  compare-node target p = rw bad
+  compare-node target p = rw (h.0, h.1)
 
-  pub child-node : (target : ℕ) → refused Node [] ≡ child_said x target
+  pub child-node : (target : ℕ) → refused why [] ≡ child_said x target
   unfolding child_said
-  child-node target = rw bad
-
-  pub insert-node : (p ikey child : ℕ) → refused Node (numbers x) ≡ insert_said x p ikey child
-  unfolding insert_said
-  insert-node p ikey child = rw bad
+  child-node target = rw (h.0, h.1)
 
 -- ---- a node that passed
 
-module _ (x : Internode) {g : Bool} (e : g ≡ good x) (t : not g ≡ false) where
-  pub fine : good x ≡ true
-  fine = sym e ∙ not-false g t
-
-  pub fine-n : x.n ≤ 15
-  fine-n = good-n x fine
-
+module _ (x : Internode) (fine : good x ≡ true) where
   pub find_at : {p : ℕ} (target : ℕ) → p ≡ insert_position x target → accepted (p ∷ []) ≡ find_said x target
   unfolding find_said
   find_at target d = rw (fine, d)
@@ -64,38 +51,27 @@ module _ (x : Internode) {g : Bool} (e : g ≡ good x) (t : not g ≡ false) whe
   unfolding child_said
   child-is target d = rw (fine, d)
 
-  module _ (p ikey child : ℕ) where
-    pub insert-position : x.n < p → refused Position (numbers x) ≡ insert_said x p ikey child
-    unfolding insert_said
-    insert-position l = rw (fine, lt-leb p x.n l)
+-- ---- an insertion
 
-    pub insert-full : p ≤ x.n → 15 ≤ x.n → refused Full (numbers x) ≡ insert_said x p ikey child
-    unfolding insert_said
-    insert-full l h = rw (fine, le-leb p x.n l, le-ltb x.n 15 h)
+-- refused, the values that it would have had do not matter
+refused-whatever : (why : Refusal) (rs : List Rule) (values back : List ℕ) → refused why back ≡ answered rs back back
+    → refused why back ≡ answered rs values back
+refused-whatever why [] values back h = no-refusal why (sym h)
+refused-whatever why (rule ∷ rs) values back h = by (refused-whatever why rs values back) rule.holds h
+  where
+    by : (refused why back ≡ answered rs back back → refused why back ≡ answered rs values back) → (b : Bool)
+        → refused why back ≡ cond b (answered rs back back) (refused_telling rule.number rule.told back)
+        → refused why back ≡ cond b (answered rs values back) (refused_telling rule.number rule.told back)
+    by later true e = later e
+    by later false e = e
 
-    pub insert-order : {f : Bool} → p ≤ x.n → x.n < 15 → f ≡ rising (inserted_at p ikey (keys_of x)) → not f ≡ true
-        → refused Order (numbers x) ≡ insert_said x p ikey child
-    unfolding insert_said
-    insert-order {f} l h d q = rw (fine, le-leb p x.n l, lt-ltb x.n 15 h, ← d, not-true f q)
+module _ (x : Internode) (p ikey child : ℕ) where
+  -- a refused call hands the node back
+  pub insert-refused : (why : Refusal) → ((values : List ℕ) → refused why values ≡ answered (insert_rules x p ikey) values values)
+      → refused why (numbers x) ≡ insert_said x p ikey child
+  unfolding insert_said
+  insert-refused why h = refused-whatever why (insert_rules x p ikey) (numbers (inserted x p ikey child)) (numbers x) (h (numbers x))
 
-    pub insert-done : {f : Bool} {y : Internode} → p ≤ x.n → x.n < 15 → f ≡ rising (inserted_at p ikey (keys_of x)) → not f ≡ false
-        → y ≡ inserted x p ikey child → accepted (numbers y) ≡ insert_said x p ikey child
-    unfolding insert_said
-    insert-done {f} l h d q r = rw (fine, le-leb p x.n l, lt-ltb x.n 15 h, ← d, not-false f q, r)
-
-pub ruleset calls = (
-  find-node,
-  compare-node,
-  child-node,
-  insert-node,
-  find_at,
-  compare-position,
-  compare-is,
-  child-is,
-  insert-position,
-  insert-full,
-  insert-order,
-  insert-done,
-)
-
-pub ruleset asks = (rules, fine, fine-n)
+  pub insert-done : {y : Internode} → Insertable x p ikey → y ≡ inserted x p ikey child → accepted (numbers y) ≡ insert_said x p ikey child
+  unfolding insert_said
+  insert-done h r = rw (h.fine, le-leb p x.n h.within, lt-ltb x.n 15 h.room, h.rises, r)

@@ -1,50 +1,38 @@
 -- An answer is known by what it says: each contract leaves one outcome. Assumes nothing.
-use mathlib.Core.Path.{◌≡◌, refl, sym, ap, ◌∙◌}
+use mathlib.Core.Path.{◌≡◌, sym, ap, ◌∙◌}
 use mathlib.Core.List.{List, ◌++◌}
 use Prim.Native.Nat.{ℕ}
 use lib.ListN.{get_or, take, drop}
 use lib.Seq.{take_at, drop_at}
 use Rattle.refusal.specs.Answer.{Answer}
-use Rattle.refusal.proofs.Laws.{number-one}
-use Rattle.refusal.proofs.One.{number-of, differ, no-refusal, same-refusal, same-value}
+use Rattle.refusal.specs.declared.Refusal.{Refusal}
+use Rattle.refusal.proofs.One.{no-refusal, same-refusal, same-value}
+use Rattle.std.specs.Prelude.{Result, Ok, Err}
+use Rattle.std.specs.declared.cmp.Ordering.{Ordering}
 use Rattle.ikey.proofs.One.{place-one}
 use Rattle.internode_places.specs.declared.Internode.{Internode}
 use Rattle.internode_places.proofs.Whole.{Whole}
-use Rattle.internode.specs.declared.Place.{Place}
-use Rattle.internode.specs.declared.Place.TheVariants as place_is
-use Rattle.internode.specs.declared.Child.{Child}
-use Rattle.internode.specs.declared.Child.TheVariants as child-is
-use Rattle.internode.specs.declared.Compared.{Compared}
-use Rattle.internode.specs.declared.Compared.TheVariants as compared_is
-use Rattle.internode.specs.declared.Verdict.{Verdict}
-use Rattle.internode.specs.declared.Verdict.TheVariants as verdict-is
-use Rattle.internode.specs.declared.Inserted.{Inserted}
+use Rattle.internode.specs.declared.Refused.{Refused}
 use Rattle.internode.specs.Node.{numbers}
-use Rattle.internode.specs.Answers.{said_place, said_child, said_compared, number_said, said_inserted}
+use Rattle.internode.specs.Answers.{said_place, said_child, said_compared, said_inserted, node_back}
 
-pub place-said-one : (a b : Place) → said_place a ≡ said_place b → a ≡ b
-place-said-one (place_is.At p) (place_is.At q) e = ap place_is.At (same-value e)
-place-said-one (place_is.At p) (place_is.Refused w) e = no-refusal w e
-place-said-one (place_is.Refused v) (place_is.At q) e = no-refusal v (sym e)
-place-said-one (place_is.Refused v) (place_is.Refused w) e = ap place_is.Refused (same-refusal v w e)
+pub place-said-one : (a b : Result ℕ Refusal) → said_place a ≡ said_place b → a ≡ b
+place-said-one (Ok p) (Ok q) e = ap Ok (same-value e)
+place-said-one (Ok p) (Err w) e = no-refusal w e
+place-said-one (Err v) (Ok q) e = no-refusal v (sym e)
+place-said-one (Err v) (Err w) e = ap Err (same-refusal v w e)
 
-pub child-one : (a b : Child) → said_child a ≡ said_child b → a ≡ b
-child-one (child-is.Is p) (child-is.Is q) e = ap child-is.Is (same-value e)
-child-one (child-is.Is p) (child-is.Refused w) e = no-refusal w e
-child-one (child-is.Refused v) (child-is.Is q) e = no-refusal v (sym e)
-child-one (child-is.Refused v) (child-is.Refused w) e = ap child-is.Refused (same-refusal v w e)
+pub child-one : (a b : Result ℕ Refusal) → said_child a ≡ said_child b → a ≡ b
+child-one (Ok p) (Ok q) e = ap Ok (same-value e)
+child-one (Ok p) (Err w) e = no-refusal w e
+child-one (Err v) (Ok q) e = no-refusal v (sym e)
+child-one (Err v) (Err w) e = ap Err (same-refusal v w e)
 
-pub compared-one : (a b : Compared) → said_compared a ≡ said_compared b → a ≡ b
-compared-one (compared_is.Is o) (compared_is.Is q) e = ap compared_is.Is (place-one o q (same-value e))
-compared-one (compared_is.Is o) (compared_is.Refused w) e = no-refusal w e
-compared-one (compared_is.Refused v) (compared_is.Is q) e = no-refusal v (sym e)
-compared-one (compared_is.Refused v) (compared_is.Refused w) e = ap compared_is.Refused (same-refusal v w e)
-
-verdict-one : (a b : Verdict) → number_said a ≡ number_said b → a ≡ b
-verdict-one verdict-is.Accepted verdict-is.Accepted e = refl
-verdict-one verdict-is.Accepted (verdict-is.Refused w) e = absurd (differ w e)
-verdict-one (verdict-is.Refused v) verdict-is.Accepted e = absurd (differ v (sym e))
-verdict-one (verdict-is.Refused v) (verdict-is.Refused w) e = ap verdict-is.Refused (number-one v w e)
+pub compared-one : (a b : Result Ordering Refusal) → said_compared a ≡ said_compared b → a ≡ b
+compared-one (Ok o) (Ok q) e = ap Ok (place-one o q (same-value e))
+compared-one (Ok o) (Err w) e = no-refusal w e
+compared-one (Err v) (Ok q) e = no-refusal v (sym e)
+compared-one (Err v) (Err w) e = ap Err (same-refusal v w e)
 
 -- an internode is known by its numbers
 pub node-one : (x y : Internode) → Whole x → Whole y → numbers x ≡ numbers y → x ≡ y
@@ -66,9 +54,12 @@ node-one x y a b e =
     kids = sym (drop_at x.ikeys x.children 15 a.ikeys-15) ∙ ap (λ (l : List ℕ). drop 15 l) rest
         ∙ drop_at y.ikeys y.children 15 b.ikeys-15
 
-pub inserted-one : (a b : Inserted) → Whole a.node → Whole b.node → said_inserted a ≡ said_inserted b → a ≡ b
-inserted-one a b u v e =
-    λ i. record {
-      said = verdict-one a.said b.said (number-of e) i;
-      node = node-one a.node b.node u v (ap (λ (x : Answer). x.values) e) i;
-    }
+refused-one : (a b : Refused) → a.why ≡ b.why → a.node ≡ b.node → a ≡ b
+refused-one a b e d = λ i. record { why = e i; node = d i }
+
+pub inserted-one : (a b : Result Internode Refused) → Whole (node_back a) → Whole (node_back b) → said_inserted a ≡ said_inserted b → a ≡ b
+inserted-one (Ok x) (Ok y) u v e = ap Ok (node-one x y u v (ap (λ (s : Answer). s.values) e))
+inserted-one (Ok x) (Err b) u v e = no-refusal b.why e
+inserted-one (Err a) (Ok y) u v e = no-refusal a.why (sym e)
+inserted-one (Err a) (Err b) u v e =
+    ap Err (refused-one a b (same-refusal a.why b.why e) (node-one a.node b.node u v (ap (λ (s : Answer). s.values) e)))

@@ -1,39 +1,34 @@
 -- What each answer says, by document 01's numbers.
-use Rattle.std.specs.Prelude.{ℕ, [], ◌∷◌}
+use Rattle.std.specs.Prelude.{ℕ, [], ◌∷◌, Result, Ok, Err}
+use Rattle.refusal.specs.declared.Refusal.{Refusal}
 use Rattle.refusal.specs.Answer.{Answer, accepted, refused}
-use Rattle.refusal.specs.Refusals.{number_of}
 use Rattle.ikey.specs.Said.{place, order_of}
-use Rattle.internode.specs.declared.Place.{Place}
-use Rattle.internode.specs.declared.Place.TheVariants as place_is
-use Rattle.internode.specs.declared.Child.{Child}
-use Rattle.internode.specs.declared.Child.TheVariants as child-is
-use Rattle.internode.specs.declared.Compared.{Compared}
-use Rattle.internode.specs.declared.Compared.TheVariants as compared_is
-use Rattle.internode.specs.declared.Verdict.{Verdict}
-use Rattle.internode.specs.declared.Verdict.TheVariants as verdict-is
-use Rattle.internode.specs.declared.Inserted.{Inserted}
+use Rattle.std.specs.declared.cmp.Ordering.{Ordering}
+use Rattle.internode_places.specs.declared.Internode.{Internode}
+use Rattle.internode.specs.declared.Refused.{Refused}
 use Rattle.internode.specs.Node.{numbers}
 
 -- a place: 0 and the place, or the refusal's number
-abbrev pub said_place : Place → Answer
-said_place (place_is.At p) = accepted (p ∷ [])
-said_place (place_is.Refused why) = refused why []
+abbrev pub said_place : Result ℕ Refusal → Answer
+said_place (Ok p) = accepted (p ∷ [])
+said_place (Err why) = refused why []
 
 -- a child: 0 and its number, or the refusal's number
-abbrev pub said_child : Child → Answer
-said_child (child-is.Is number) = accepted (number ∷ [])
-said_child (child-is.Refused why) = refused why []
+abbrev pub said_child : Result ℕ Refusal → Answer
+said_child (Ok number) = accepted (number ∷ [])
+said_child (Err why) = refused why []
 
 -- an order: 0 and its place (less 0, equal 1, greater 2), or the refusal's number
-abbrev pub said_compared : Compared → Answer
-said_compared (compared_is.Is o) = accepted (place (order_of o) ∷ [])
-said_compared (compared_is.Refused why) = refused why []
+abbrev pub said_compared : Result Ordering Refusal → Answer
+said_compared (Ok o) = accepted (place (order_of o) ∷ [])
+said_compared (Err why) = refused why []
 
--- the number of a verdict: 0, or the refusal's
-abbrev pub number_said : Verdict → ℕ
-number_said verdict-is.Accepted = 0
-number_said (verdict-is.Refused why) = number_of why
+-- an insertion: 0 and all that the node holds, or the refusal's number and all that the node handed back holds
+abbrev pub said_inserted : Result Internode Refused → Answer
+said_inserted (Ok node) = accepted (numbers node)
+said_inserted (Err r) = refused r.why (numbers r.node)
 
--- an insertion: the number of its verdict and all that the node handed back holds
-abbrev pub said_inserted : Inserted → Answer
-said_inserted r = record { number = number_said r.said; values = numbers r.node }
+-- the node handed back, inserted into or refused
+abbrev pub node_back : Result Internode Refused → Internode
+node_back (Ok node) = node
+node_back (Err r) = r.node

@@ -1,6 +1,6 @@
 -- What each call on an internode answers: the rules of document 01's table, the values, and what a refused call hands back.
 use Prim.Native.Nat.{ℕ, compare}
-use Rattle.std.specs.Prelude.{List, [], ◌∷◌, ltb, leb, get_or}
+use Rattle.std.specs.Prelude.{◌≡◌, ◌≤◌, ◌<◌, true, List, [], ◌∷◌, ltb, leb, get_or}
 use Rattle.refusal.specs.Answer.{Answer, Rule, ◌unless◌, answered}
 use Rattle.ikey.specs.Said.{place}
 use Rattle.internode_places.specs.declared.Internode.{Internode}
@@ -28,6 +28,13 @@ insert_rules x p ikey =
     (5 unless ltb x.n 15) ∷
     (9 unless rising (inserted_at p ikey (keys_of x))) ∷
     []
+
+-- what those rules say where all hold
+pub record Insertable (x : Internode) (p ikey : ℕ) : Type 0 where
+  pub fine : good x ≡ true
+  pub within : p ≤ x.n
+  pub room : x.n < 15
+  pub rises : rising (inserted_at p ikey (keys_of x)) ≡ true
 
 -- the node with key p and child p+1 written; refused, the node as given
 unfoldable pub insert_said : Internode → ℕ → ℕ → ℕ → Answer

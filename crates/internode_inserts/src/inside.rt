@@ -13,15 +13,8 @@ pub fn insert(mut node: Internode, p: usize, ikey: u64, child: u64) -> Internode
     ensures { result ≡ inserted node p ikey child }
 {
     let n = node.n;
-    let mut j = n;
-    // All ikeys from j on, and the children right of them, have moved up by one.
-    while p < j {
-        let k = node.ikeys[j - 1];
-        let c = node.children[j];
-        node.ikeys[j] = k;
-        node.children[j + 1] = c;
-        j -= 1;
-    }
+    node.ikeys.copy_within(p..n, p + 1);
+    node.children.copy_within(p + 1..n + 1, p + 2);
     node.ikeys[p] = ikey;
     node.children[p + 1] = child;
     node.n = n + 1;
@@ -39,15 +32,8 @@ pub fn shift_from(
     requires { (p + count ≤ 15) × (at + count ≤ 15) }
     ensures { result ≡ shifted node p src at count }
 {
-    let mut i: usize = 0;
-    // The first i of them are copied.
-    while i < count {
-        let k = src.ikeys[at + i];
-        let c = src.children[at + 1 + i];
-        node.ikeys[p + i] = k;
-        node.children[p + 1 + i] = c;
-        i += 1;
-    }
+    node.ikeys[p..p + count].copy_from_slice(&src.ikeys[at..at + count]);
+    node.children[p + 1..p + 1 + count].copy_from_slice(&src.children[at + 1..at + 1 + count]);
     node
 }
 

@@ -78,9 +78,13 @@ module _ (x : Internode) (target : ℕ) where
   pub child-most : child_place x target ≤ x.n
   child-most = omega (arith, last-most (λ k. leb k target) (keys_of x), length-take x.n x.ikeys)
 
+  -- the child stands at the first ikey above the target
+  pub child-is-first : good x ≡ true → child_place x target ≡ first (λ k. ltb target k) (keys_of x)
+  child-is-first g = last-is-first target (keys_of x) (good-rising x g)
+
   module _ (w : Whole x) (h : x.n ≤ 15) (g : good x ≡ true) where
     place : child_place x target ≡ first (λ k. ltb target k) (keys_of x)
-    place = last-is-first target (keys_of x) (good-rising x g)
+    place = child-is-first g
 
     -- every ikey left of the child is not above the target
     pub child-left : (k : ℕ) → k < child_place x target → get_or x.ikeys k 0 ≤ target

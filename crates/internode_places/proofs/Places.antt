@@ -1,28 +1,19 @@
 -- The first place that passes a test, and the place after the last: what they are known by. Assumes nothing.
-use mathlib.Core.Path.{◌≡◌, refl, ap}
-use mathlib.Core.Bool.{Bool, true, false}
+use mathlib.Core.Path.{◌≡◌, refl, sym}
+use mathlib.Core.Bool.{Bool, true, false, cond}
 use mathlib.Core.List.{List, [], ◌∷◌}
-use Prim.Native.Nat.{ℕ, zero, suc, ◌-◌, ◌≤◌, ◌<◌}
+use Prim.Native.Nat.{ℕ, zero, suc, ◌+◌, ◌≤◌, ◌<◌}
 use native.Mathlib.Nat.{not-suc-le-zero}
 use native.Mathlib.Omega.{arith}
+use native.Mathlib.Decide.{dec_lt}
+use borrow.Author.Tests.{lt-ltb, le-ltb}
 use lib.ListN.{length, get_or}
+use Rattle.std.specs.List.{position, position_or_len}
+use Rattle.std.specs.Option.{unwrap_or}
+use Rattle.std.proofs.lemmas.List.Recursion.{is_position_or_len}
 use Rattle.internode_places.specs.Lists.{first, after_last, here_or_later, one_more_or}
 
 module _ (test : ℕ → Bool) where
-  -- no place before it passes
-  pub first-here : (ks : List ℕ) (i : ℕ) → i < length ks → ((k : ℕ) → k < i → test (get_or ks k 0) ≡ false)
-      → test (get_or ks i 0) ≡ true → first test ks ≡ i
-  unfolding first
-  first-here [] i h f e = absurd (not-suc-le-zero h)
-  first-here (x ∷ ks) zero h f e = rw e
-  first-here (x ∷ ks) (suc i) h f e =
-      rw (f 0 (omega arith)) (ap suc (first-here ks i (omega arith) (λ k l. f (suc k) (omega arith)) e))
-
-  pub first-none : (ks : List ℕ) → ((k : ℕ) → k < length ks → test (get_or ks k 0) ≡ false) → first test ks ≡ length ks
-  unfolding first
-  first-none [] f = refl
-  first-none (x ∷ ks) f = rw (f 0 (omega arith)) (ap suc (first-none ks (λ k l. f (suc k) (omega arith))))
-
   pub first-most : (ks : List ℕ) → first test ks ≤ length ks
   unfolding first
   first-most [] = omega arith
@@ -53,6 +44,22 @@ module _ (test : ℕ → Bool) where
           → test (get_or (x ∷ ks) (here_or_later b (first test ks)) 0) ≡ true
       by later true e l = e
       by later false e l = later (omega arith)
+
+  -- what `position` finds, or the length
+  pub position-first : (ks : List ℕ) (n : ℕ) → length ks ≡ n → unwrap_or (position test ks) n ≡ first test ks
+  unfolding first
+  position-first ks n h =
+      elim (dec_lt (position_or_len test ks) (length ks)) [
+        | yes l ↦ rw (lt-ltb (position_or_len test ks) (length ks) l) (sym same)
+        | no m ↦ rw (le-ltb (position_or_len test ks) (length ks) (omega arith)) (omega (arith, same, first-most ks))
+      ]
+    where
+      one : (b : Bool) (later : ℕ) → here_or_later b later ≡ cond b 0 (1 + later)
+      one true later = refl
+      one false later = omega arith
+
+      same : first test ks ≡ position_or_len test ks
+      same = is_position_or_len (first test) test refl (λ k rest. one (test k) (first test rest)) ks
 
   -- ---- the place after the last
 

@@ -11,18 +11,8 @@ pub fn is_good(node: Internode) -> bool
     ensures { result ≡ good node }
 {
     let n = node.n;
-    if 15 < n {
-        return false;
-    }
-    let mut i: usize = 1;
-    // The first i ikeys strictly rise.
-    while i < n {
-        if node.ikeys[i] <= node.ikeys[i - 1] {
-            return false;
-        }
-        i += 1;
-    }
-    true
+    let few = n <= 15;
+    few && node.ikeys[..n].is_sorted_by(|before, k| *before < *k)
 }
 
 // The place of the first ikey not below the target, or n.
@@ -31,32 +21,18 @@ pub fn insert_position(node: Internode, target: u64) -> usize
     ensures { result ≡ insert_position node target }
 {
     let n = node.n;
-    let mut i: usize = 0;
-    // The first i ikeys are below the target.
-    while i < n {
-        if target <= node.ikeys[i] {
-            return i;
-        }
-        i += 1;
-    }
-    i
+    let keys = &node.ikeys[..n];
+    keys.iter().position(|k| target <= *k).unwrap_or(n)
 }
 
-// The place of the child after the last ikey not above the target.
+// The place of the child after the last ikey not above the target: that of the first ikey above it, since they rise.
 pub fn child_place(node: Internode, target: u64) -> usize
     requires { good node ≡ true }
     ensures { (result ≡ child_place node target) × (result ≤ node.n) × (result ≤ 15) }
 {
     let n = node.n;
-    let mut i: usize = 0;
-    // The first i ikeys are not above the target.
-    while i < n {
-        if target < node.ikeys[i] {
-            return i;
-        }
-        i += 1;
-    }
-    i
+    let keys = &node.ikeys[..n];
+    keys.iter().position(|k| target < *k).unwrap_or(n)
 }
 
 // Whether the order stays strict with the ikey at p; refusal 9 where not.
@@ -64,13 +40,8 @@ pub fn keeps_order(node: Internode, p: usize, ikey: u64) -> bool
     requires { (good node ≡ true) × (p ≤ node.n) }
     ensures { result ≡ rising (inserted_at p ikey (keys_of node)) }
 {
-    if p < node.n {
-        if node.ikeys[p] <= ikey {
-            return false;
-        }
+    if p < node.n && node.ikeys[p] <= ikey {
+        return false;
     }
-    if p == 0 {
-        return true;
-    }
-    node.ikeys[p - 1] < ikey
+    p == 0 || node.ikeys[p - 1] < ikey
 }

@@ -3,7 +3,7 @@
 
 pub mod inside;
 
-// The first n ikeys and the first n + 1 children are in use.
+// The first n ikeys and the first n + 1 children are in use. The arrays stay: memory is fixed, and C lends the same arrays.
 #[derive(Clone, Copy)]
 pub struct Internode {
     pub n: usize,

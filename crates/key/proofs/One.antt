@@ -7,22 +7,11 @@ use native.Mathlib.Omega.{arith}
 use denote.Ref.{Bor}
 use Rattle.refusal.specs.Answer.{Answer, refused}
 use Rattle.refusal.specs.declared.Refusal.{Refusal}
+use Rattle.std.specs.Prelude.{Result, Ok, Err}
+use Rattle.std.specs.declared.cmp.Ordering.{Ordering}
 use Rattle.ikey.proofs.One.{no-refusal, same-refusal, same-values, same-value, place-one}
 use Rattle.key_layer.specs.declared.Layer.{Layer}
-use Rattle.key_layer.specs.declared.Made.{Made}
-use Rattle.key_layer.specs.declared.Made.TheVariants.{At as made_at, Refused as made-refused}
-use Rattle.key_layer.specs.declared.Moved.{Moved}
-use Rattle.key_layer.specs.declared.Moved.TheVariants.{At as moved_at, Refused as moved-refused}
-use Rattle.key_layer.specs.declared.Word.{Word}
-use Rattle.key_layer.specs.declared.Word.TheVariants.{Is as word-is, Refused as word-refused}
-use Rattle.key_layer.specs.declared.Count.{Count}
-use Rattle.key_layer.specs.declared.Count.TheVariants.{Is as count-is, Refused as count-refused}
-use Rattle.key_layer.specs.declared.Told.{Told}
-use Rattle.key_layer.specs.declared.Told.TheVariants.{Is as told_is, Refused as told-refused}
-use Rattle.key_layer.specs.declared.Compared.{Compared}
-use Rattle.key_layer.specs.declared.Compared.TheVariants.{Is as compared_is, Refused as compared-refused}
-use Rattle.key_layer.specs.declared.Judged.{Judged}
-use Rattle.key_layer.specs.declared.Judged.TheVariants.{Fits, Refused as judged-refused}
+use Rattle.key_layer.specs.declared.Refused.{Refused}
 use Rattle.key_layer.specs.Said.{numbers_of, truth, said_made, said_moved, said_word, said_count, said_told, said_compared, said_judged}
 use Rattle.key.specs.declared.Part.{Part}
 use Rattle.key.specs.Parts.{said_part, LiesFrom}
@@ -45,53 +34,61 @@ numbers-one k l e = layer-one k.ikey k.shift_count k.suffix_start l.ikey l.shift
 back_one : (v w : Refusal) (k l : Layer) → refused v (numbers_of k) ≡ refused w (numbers_of l) → k ≡ l
 back_one v w k l e = numbers-one k l (ap (λ (x : Answer). x.values) e)
 
+refused_of : Refusal → Layer → Refused
+refused_of v k = record { why = v; layer = k }
+
+-- two refused calls that say the same are one
+refused-one : (v w : Refused) → refused v.why (numbers_of v.layer) ≡ refused w.why (numbers_of w.layer) → v ≡ w
+unfolding refused_of
+refused-one v w e = ap₂ refused_of (same-refusal v.why w.why e) (back_one v.why w.why v.layer w.layer e)
+
 truth-one : (a b : Bool) → truth a ≡ truth b → a ≡ b
 truth-one true true e = refl
 truth-one true false e = absurd (omega arith)
 truth-one false true e = absurd (omega arith)
 truth-one false false e = refl
 
-pub made_one : (a b : Made) → said_made a ≡ said_made b → a ≡ b
-made_one (made_at k) (made_at l) e = ap made_at (numbers-one k l (same-values e))
-made_one (made_at k) (made-refused w) e = no-refusal w e
-made_one (made-refused v) (made_at l) e = no-refusal v (sym e)
-made_one (made-refused v) (made-refused w) e = ap made-refused (same-refusal v w e)
+pub made_one : (a b : Result Layer Refusal) → said_made a ≡ said_made b → a ≡ b
+made_one (Ok k) (Ok l) e = ap Ok (numbers-one k l (same-values e))
+made_one (Ok k) (Err w) e = no-refusal w e
+made_one (Err v) (Ok l) e = no-refusal v (sym e)
+made_one (Err v) (Err w) e = ap Err (same-refusal v w e)
 
-pub moved-one : (a b : Moved) → said_moved a ≡ said_moved b → a ≡ b
-moved-one (moved_at k) (moved_at l) e = ap moved_at (numbers-one k l (same-values e))
-moved-one (moved_at k) (moved-refused w l) e = no-refusal w e
-moved-one (moved-refused v k) (moved_at l) e = no-refusal v (sym e)
-moved-one (moved-refused v k) (moved-refused w l) e = ap₂ moved-refused (same-refusal v w e) (back_one v w k l e)
+pub moved-one : (a b : Result Layer Refused) → said_moved a ≡ said_moved b → a ≡ b
+moved-one (Ok k) (Ok l) e = ap Ok (numbers-one k l (same-values e))
+moved-one (Ok k) (Err w) e = no-refusal w.why e
+moved-one (Err v) (Ok l) e = no-refusal v.why (sym e)
+moved-one (Err v) (Err w) e = ap Err (refused-one v w e)
 
-pub word-one : (a b : Word) → said_word a ≡ said_word b → a ≡ b
-word-one (word-is m) (word-is n) e = ap word-is (same-value e)
-word-one (word-is m) (word-refused w l) e = no-refusal w e
-word-one (word-refused v k) (word-is n) e = no-refusal v (sym e)
-word-one (word-refused v k) (word-refused w l) e = ap₂ word-refused (same-refusal v w e) (back_one v w k l e)
+pub word-one : (a b : Result ℕ Refused) → said_word a ≡ said_word b → a ≡ b
+word-one (Ok m) (Ok n) e = ap Ok (same-value e)
+word-one (Ok m) (Err w) e = no-refusal w.why e
+word-one (Err v) (Ok n) e = no-refusal v.why (sym e)
+word-one (Err v) (Err w) e = ap Err (refused-one v w e)
 
-pub count-one : (a b : Count) → said_count a ≡ said_count b → a ≡ b
-count-one (count-is m) (count-is n) e = ap count-is (same-value e)
-count-one (count-is m) (count-refused w l) e = no-refusal w e
-count-one (count-refused v k) (count-is n) e = no-refusal v (sym e)
-count-one (count-refused v k) (count-refused w l) e = ap₂ count-refused (same-refusal v w e) (back_one v w k l e)
+pub count-one : (a b : Result ℕ Refused) → said_count a ≡ said_count b → a ≡ b
+count-one (Ok m) (Ok n) e = ap Ok (same-value e)
+count-one (Ok m) (Err w) e = no-refusal w.why e
+count-one (Err v) (Ok n) e = no-refusal v.why (sym e)
+count-one (Err v) (Err w) e = ap Err (refused-one v w e)
 
-pub told-one : (a b : Told) → said_told a ≡ said_told b → a ≡ b
-told-one (told_is m) (told_is n) e = ap told_is (truth-one m n (same-value e))
-told-one (told_is m) (told-refused w l) e = no-refusal w e
-told-one (told-refused v k) (told_is n) e = no-refusal v (sym e)
-told-one (told-refused v k) (told-refused w l) e = ap₂ told-refused (same-refusal v w e) (back_one v w k l e)
+pub told-one : (a b : Result Bool Refused) → said_told a ≡ said_told b → a ≡ b
+told-one (Ok m) (Ok n) e = ap Ok (truth-one m n (same-value e))
+told-one (Ok m) (Err w) e = no-refusal w.why e
+told-one (Err v) (Ok n) e = no-refusal v.why (sym e)
+told-one (Err v) (Err w) e = ap Err (refused-one v w e)
 
-pub compared-one : (a b : Compared) → said_compared a ≡ said_compared b → a ≡ b
-compared-one (compared_is m) (compared_is n) e = ap compared_is (place-one m n (same-value e))
-compared-one (compared_is m) (compared-refused w l) e = no-refusal w e
-compared-one (compared-refused v k) (compared_is n) e = no-refusal v (sym e)
-compared-one (compared-refused v k) (compared-refused w l) e = ap₂ compared-refused (same-refusal v w e) (back_one v w k l e)
+pub compared-one : (a b : Result Ordering Refused) → said_compared a ≡ said_compared b → a ≡ b
+compared-one (Ok m) (Ok n) e = ap Ok (place-one m n (same-value e))
+compared-one (Ok m) (Err w) e = no-refusal w.why e
+compared-one (Err v) (Ok n) e = no-refusal v.why (sym e)
+compared-one (Err v) (Err w) e = ap Err (refused-one v w e)
 
-pub judged-one : (a b : Judged) → said_judged a ≡ said_judged b → a ≡ b
-judged-one Fits Fits e = refl
-judged-one Fits (judged-refused w l) e = no-refusal w e
-judged-one (judged-refused v k) Fits e = no-refusal v (sym e)
-judged-one (judged-refused v k) (judged-refused w l) e = ap₂ judged-refused (same-refusal v w e) (back_one v w k l e)
+pub judged-one : (a b : Result (Unit {0}) Refused) → said_judged a ≡ said_judged b → a ≡ b
+judged-one (Ok a) (Ok b) e = refl
+judged-one (Ok a) (Err w) e = no-refusal w.why e
+judged-one (Err v) (Ok b) e = no-refusal v.why (sym e)
+judged-one (Err v) (Err w) e = ap Err (refused-one v w e)
 
 -- two parts that a call may hand back have one number, hold the same bytes and lie at the same place
 module _ (said : Answer) (s : Bor (List ℕ)) (start : ℕ) (a b : Part) where

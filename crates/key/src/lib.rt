@@ -5,7 +5,7 @@
 
 ghost use Rattle.key.specs.Parts.{IsSuffix, IsData};
 
-pub use key_layer::{Compared, Count, Judged, Layer, Made, Moved, Told, Word};
+pub use key_layer::{Layer, Refused};
 pub use key_moves::{shift, unshift, unshift_all};
 pub use key_questions::{ikey, shift_count, suffix_start};
 pub use keys_compares::{compare, compare_suffix};

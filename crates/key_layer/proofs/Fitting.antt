@@ -15,7 +15,7 @@ use Rattle.key_layer.specs.Keys.{suffix_at, numbers_at, reached, fits, allows, s
 -- ---- a layer that there is
 
 module _ (bytes : List ℕ) (s : ℕ) where
-  pub reached-first : s ≡ 0 → true ≡ reached bytes s
+  pub reached-first : s ≡ 0 → eqb s 0 ≡ reached bytes s
   unfolding reached
   reached-first e = rw (eq-eqb s 0 e)
 
@@ -70,7 +70,7 @@ module _ (bytes : List ℕ) (i s p : ℕ) where
       unfolding numbers_at
       same_start = cc
 
-      pub fits-other : (j ≡ i → ⊥) → false ≡ fits bytes i s p
+      pub fits-other : (j ≡ i → ⊥) → eqb j i ≡ fits bytes i s p
       unfolding fits
       fits-other d = rw (le-leb (length bytes) 256 h, ← e, not-false r q, ← same_word, ne_eqb j i d)
 
@@ -155,6 +155,25 @@ module _ (bytes : List ℕ) (i s p : ℕ) {r : Bool} (e : r ≡ fits bytes i s p
     pub shiftable-fits : Fits w64 (s + by / 8)
     shiftable-fits = record { fits = omega (arith, shiftable-within, fitting.most) }
 
+-- the same, where the judgement has passed
+module _ (bytes : List ℕ) (i s p : ℕ) (e : true ≡ fits bytes i s p) where
+  pub judged-suffix : p ≤ length bytes
+  judged-suffix = suffix_within bytes i s p e refl
+
+  pub judged-here : 8 * s ≤ length bytes
+  judged-here = here-within bytes i s p e refl
+
+  pub judged-back : (k : ℕ) → 8 * (s - k) ≤ length bytes
+  judged-back k = back-within bytes i s p e refl k
+
+  pub judged-by : (by : ℕ) {a : Bool} → a ≡ shiftable bytes s by → a ≡ true → 8 * (s + by / 8) ≤ length bytes
+  judged-by by f h = shiftable-within bytes i s p e refl by f h
+
+  pub judged-by_fits : (by : ℕ) {a : Bool} → a ≡ shiftable bytes s by → a ≡ true → Fits w64 (s + by / 8)
+  judged-by_fits by f h = shiftable-fits bytes i s p e refl by f h
+
 pub ruleset fittings = (reached-first, reached-later, reached-told, fits-long, fits-beyond, fits-other, fits_last, layer-short, layer-long)
 
 pub ruleset withins = (suffix_within, here-within, back-within, shifts-within, shiftable-within, shiftable-fits)
+
+pub ruleset judged-withins = (judged-suffix, judged-here, judged-back, judged-by, judged-by_fits)

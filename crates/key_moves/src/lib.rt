@@ -6,40 +6,49 @@ ghost use Rattle.std.specs.Prelude.{◌≡◌};
 ghost use Rattle.key_layer.specs.Keys.{answer_to, UnshiftAll, shift_said, unshift_said};
 ghost use Rattle.key_layer.specs.Said.{said_moved};
 
-use key_layer::{Moved, inside};
+use key_layer::{Layer, Refused, inside};
 
 // The key eight bytes further on.
-pub fn shift(bytes: &[u8], ikey: u64, shift_count: usize, suffix_start: usize) -> Moved
+pub fn shift(
+    bytes: &[u8],
+    ikey: u64,
+    shift_count: usize,
+    suffix_start: usize,
+) -> Result<Layer, Refused>
     ensures { said_moved result ≡ shift_said bytes.now ikey shift_count suffix_start }
 {
-    if keys_fit::is_fit(bytes, ikey, shift_count, suffix_start) {
-        if 8 < inside::left(bytes, shift_count) {
-            return Moved::At(inside::layer(bytes, shift_count + 1));
-        }
-        return keys_answers::no_shift(ikey, shift_count, suffix_start);
+    keys_fit::judge(bytes, ikey, shift_count, suffix_start)?;
+    if 8 < inside::left(bytes, shift_count) {
+        return Ok(inside::layer(bytes, shift_count + 1));
     }
-    keys_answers::unfit(ikey, shift_count, suffix_start)
+    Err(keys_answers::no_shift(ikey, shift_count, suffix_start))
 }
 
 // The key eight bytes back.
-pub fn unshift(bytes: &[u8], ikey: u64, shift_count: usize, suffix_start: usize) -> Moved
+pub fn unshift(
+    bytes: &[u8],
+    ikey: u64,
+    shift_count: usize,
+    suffix_start: usize,
+) -> Result<Layer, Refused>
     ensures { said_moved result ≡ unshift_said bytes.now ikey shift_count suffix_start }
 {
-    if keys_fit::is_fit(bytes, ikey, shift_count, suffix_start) {
-        if 0 < shift_count {
-            return Moved::At(inside::layer(bytes, shift_count - 1));
-        }
-        return keys_answers::no_shift(ikey, shift_count, suffix_start);
+    keys_fit::judge(bytes, ikey, shift_count, suffix_start)?;
+    if 0 < shift_count {
+        return Ok(inside::layer(bytes, shift_count - 1));
     }
-    keys_answers::unfit(ikey, shift_count, suffix_start)
+    Err(keys_answers::no_shift(ikey, shift_count, suffix_start))
 }
 
 // The key at layer 0 again.
-pub fn unshift_all(bytes: &[u8], ikey: u64, shift_count: usize, suffix_start: usize) -> Moved
+pub fn unshift_all(
+    bytes: &[u8],
+    ikey: u64,
+    shift_count: usize,
+    suffix_start: usize,
+) -> Result<Layer, Refused>
     ensures { said_moved result ≡ answer_to UnshiftAll bytes.now ikey shift_count suffix_start }
 {
-    if keys_fit::is_fit(bytes, ikey, shift_count, suffix_start) {
-        return Moved::At(inside::layer(bytes, 0));
-    }
-    keys_answers::unfit(ikey, shift_count, suffix_start)
+    keys_fit::judge(bytes, ikey, shift_count, suffix_start)?;
+    Ok(inside::layer(bytes, 0))
 }

@@ -6,7 +6,8 @@ ghost use Rattle.std.specs.Prelude.{◌≡◌};
 ghost use Rattle.key_layer.specs.Keys.{answer_to, Compare, CompareSuffix};
 ghost use Rattle.key_layer.specs.Said.{said_compared};
 
-use key_layer::Compared;
+use key_layer::Refused;
+use std::cmp::Ordering;
 
 // The key against an ikey and a length, at one layer: two longer ones with equal ikeys are equal here.
 pub fn compare(
@@ -16,12 +17,12 @@ pub fn compare(
     suffix_start: usize,
     other_ikey: u64,
     keylenx: usize,
-) -> Compared
+) -> Result<Ordering, Refused>
     ensures { said_compared result ≡ answer_to (Compare other_ikey keylenx) bytes.now ikey shift_count suffix_start }
 {
+    keys_answers::judge(bytes, ikey, shift_count, suffix_start)?;
     let len = key_layer::inside::left(bytes, shift_count);
-    let order = ikey::inside::at_layer(ikey, len, other_ikey, keylenx);
-    keys_answers::asked_order(bytes, ikey, shift_count, suffix_start, order)
+    Ok(ikey::inside::at_layer(ikey, len, other_ikey, keylenx))
 }
 
 // The key's suffix against another, byte by byte: the part of the caller's bytes is handed on.
@@ -31,13 +32,10 @@ pub fn compare_suffix(
     shift_count: usize,
     suffix_start: usize,
     other: &[u8],
-) -> Compared
+) -> Result<Ordering, Refused>
     ensures { said_compared result ≡ answer_to (CompareSuffix other.now) bytes.now ikey shift_count
         suffix_start }
 {
-    let order = ikey::inside::compare_parts(
-        keys_parts::inside::suffix(bytes, ikey, shift_count, suffix_start),
-        other,
-    );
-    keys_answers::asked_order(bytes, ikey, shift_count, suffix_start, order)
+    keys_answers::judge(bytes, ikey, shift_count, suffix_start)?;
+    Ok(ikey::inside::compare_parts(&bytes[suffix_start..], other))
 }

@@ -6,8 +6,9 @@ ghost use Rattle.ikey.specs.Said.{place, order_of, said_whole};
 ghost use Rattle.key.specs.Said.{said_made, said_moved, said_compared};
 ghost use Rattle.crossing.specs.Crossing.{Crossed};
 
-use ikey::{Ordering, Whole};
-use key::{Compared, Made, Moved};
+use key::{Layer, Refused};
+use refusal::Refusal;
+use std::cmp::Ordering;
 
 // Less is 0, equal is 1, greater is 2.
 pub fn order_number(order: Ordering) -> u64
@@ -21,34 +22,34 @@ pub fn order_number(order: Ordering) -> u64
 }
 
 // Writes how two whole keys stand to each other and returns 0; refused, writes nothing and returns the number.
-pub fn give_whole(answer: Whole, order: &mut u64) -> u64
+pub fn give_whole(answer: Result<Ordering, Refusal>, order: &mut u64) -> u64
     ensures { Crossed (said_whole answer) result (order.old ∷ []) (order.new ∷ []) }
 {
     match answer {
-        Whole::Is(is) => {
+        Ok(is) => {
             *order = order_number(is);
             0
         }
-        Whole::Refused(why) => refusal::number(why),
+        Err(why) => refusal::number(why),
     }
 }
 
 // Writes how a key stands to another and returns 0; refused, writes nothing and returns the number.
-pub fn give_compared(answer: Compared, order: &mut u64) -> u64
+pub fn give_compared(answer: Result<Ordering, Refused>, order: &mut u64) -> u64
     ensures { Crossed (said_compared answer) result (order.old ∷ []) (order.new ∷ []) }
 {
     match answer {
-        Compared::Is(is) => {
+        Ok(is) => {
             *order = order_number(is);
             0
         }
-        Compared::Refused(why, _) => refusal::number(why),
+        Err(refused) => refusal::number(refused.why),
     }
 }
 
 // Writes the numbers of a new key and returns 0; refused, writes nothing and returns the number.
 pub fn give_made(
-    answer: Made,
+    answer: Result<Layer, Refusal>,
     ikey: &mut u64,
     shift_count: &mut usize,
     suffix_start: &mut usize,
@@ -58,19 +59,19 @@ pub fn give_made(
         (ikey.new ∷ shift_count.new ∷ suffix_start.new ∷ []) }
 {
     match answer {
-        Made::At(key) => {
+        Ok(key) => {
             *ikey = key.ikey;
             *shift_count = key.shift_count;
             *suffix_start = key.suffix_start;
             0
         }
-        Made::Refused(why) => refusal::number(why),
+        Err(why) => refusal::number(why),
     }
 }
 
 // Writes the numbers of a key at another layer and returns 0; refused, writes nothing and returns the number.
 pub fn give_moved(
-    answer: Moved,
+    answer: Result<Layer, Refused>,
     ikey: &mut u64,
     shift_count: &mut usize,
     suffix_start: &mut usize,
@@ -80,12 +81,12 @@ pub fn give_moved(
         (ikey.new ∷ shift_count.new ∷ suffix_start.new ∷ []) }
 {
     match answer {
-        Moved::At(key) => {
+        Ok(key) => {
             *ikey = key.ikey;
             *shift_count = key.shift_count;
             *suffix_start = key.suffix_start;
             0
         }
-        Moved::Refused(why, _) => refusal::number(why),
+        Err(stays) => refusal::number(stays.why),
     }
 }

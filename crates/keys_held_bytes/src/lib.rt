@@ -8,18 +8,19 @@ ghost use Rattle.key_layer.specs.Said.{said_count};
 ghost use Rattle.key.specs.Parts.{IsSuffix, IsData};
 ghost use Rattle.keys_held.specs.Held.{answer_of};
 
-use key::{Count, Part};
+use key::Part;
+use key_layer::Refused;
 use keys_held::Key;
 
 // The length of the whole key.
-pub fn len<'a>(k: Key<'a>) -> Count
+pub fn len<'a>(k: Key<'a>) -> Result<usize, Refused>
     ensures { said_count result ≡ answer_of Len k.entry }
 {
     keys_lengths::len(k.bytes, k.ikey, k.shift_count, k.suffix_start)
 }
 
 // Where the suffix starts, in the whole key.
-pub fn suffix_start<'a>(k: Key<'a>) -> Count
+pub fn suffix_start<'a>(k: Key<'a>) -> Result<usize, Refused>
     ensures { said_count result ≡ answer_of SuffixStart k.entry }
 {
     key_questions::suffix_start(k.bytes, k.ikey, k.shift_count, k.suffix_start)

@@ -5,10 +5,8 @@ use Rattle.refusal.specs.declared.Refusal.{Refusal}
 use Rattle.refusal.specs.Refusals.{number_of}
 use Rattle.refusal.specs.Answer.{Answer}
 use Rattle.key_layer.specs.declared.Layer.{Layer}
-use Rattle.key_layer.specs.declared.Made.{Made}
-use Rattle.key_layer.specs.declared.Made.TheVariants as made-is
-use Rattle.key_layer.specs.declared.Moved.{Moved}
-use Rattle.key_layer.specs.declared.Moved.TheVariants as moved-is
+use Rattle.key_layer.specs.declared.Refused.{Refused}
+use Rattle.std.specs.Prelude.{Result, Ok, Err}
 use Rattle.key_layer.specs.Said.{said_made, said_moved}
 use Rattle.keys_moved_numbers.specs.declared.Numbers.{Numbers}
 use Rattle.keys_moved_numbers.specs.Numbers.{numbers_in}
@@ -17,19 +15,18 @@ use Rattle.keys_moved_numbers.specs.Numbers.{numbers_in}
 abbrev beside : ℕ → Layer → Numbers
 beside n at = record { refusal = n; ikey = at.ikey; shift_count = at.shift_count; suffix_start = at.suffix_start }
 
-module _ {answer : Moved} {at : Layer} where
-  pub moved_at : answer ≡ moved-is.At at → beside 0 at ≡ numbers_in (said_moved answer)
+module _ {answer : Result Layer Refused} where
+  pub moved_at : {at : Layer} → answer ≡ Ok at → beside 0 at ≡ numbers_in (said_moved answer)
   moved_at e = rw e
 
-  pub moved-refused : {why : Refusal} {n : ℕ} → answer ≡ moved-is.Refused why at → n ≡ number_of why
-      → beside n at ≡ numbers_in (said_moved answer)
+  pub moved-refused : {w : Refused} {n : ℕ} → answer ≡ Err w → n ≡ number_of w.why → beside n w.layer ≡ numbers_in (said_moved answer)
   moved-refused e f = rw (e, f)
 
-module _ {answer : Made} where
-  pub made_at : {at : Layer} → answer ≡ made-is.At at → beside 0 at ≡ numbers_in (said_made answer)
+module _ {answer : Result Layer Refusal} where
+  pub made_at : {at : Layer} → answer ≡ Ok at → beside 0 at ≡ numbers_in (said_made answer)
   made_at e = rw e
 
-  pub made-refused : {why : Refusal} {n : ℕ} → answer ≡ made-is.Refused why → n ≡ number_of why
+  pub made-refused : {why : Refusal} {n : ℕ} → answer ≡ Err why → n ≡ number_of why
       → record { refusal = n; ikey = 0; shift_count = 0; suffix_start = 0 } ≡ numbers_in (said_made answer)
   made-refused e f = rw (e, f)
 

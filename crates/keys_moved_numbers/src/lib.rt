@@ -7,7 +7,8 @@ ghost use Rattle.key_layer.specs.Keys.{shift_said, shift_by_said};
 ghost use Rattle.key_layer.specs.Said.{said_made, said_moved};
 ghost use Rattle.keys_moved_numbers.specs.Numbers.{numbers_in};
 
-use key_layer::{Made, Moved};
+use key_layer::{Layer, Refused};
+use refusal::Refusal;
 
 // The number of a refusal, 0 where nothing was refused, and the numbers of a key.
 #[derive(Clone, Copy)]
@@ -19,37 +20,37 @@ pub struct Numbers {
 }
 
 // The numbers of a moved key beside 0, or of the key where it was beside the refusal's number.
-pub fn of_moved(answer: Moved) -> Numbers
+pub fn of_moved(answer: Result<Layer, Refused>) -> Numbers
     ensures { result ≡ numbers_in (said_moved answer) }
 {
     match answer {
-        Moved::At(at) => Numbers {
+        Ok(at) => Numbers {
             refusal: 0,
             ikey: at.ikey,
             shift_count: at.shift_count,
             suffix_start: at.suffix_start,
         },
-        Moved::Refused(why, at) => Numbers {
-            refusal: refusal::number(why),
-            ikey: at.ikey,
-            shift_count: at.shift_count,
-            suffix_start: at.suffix_start,
+        Err(refused) => Numbers {
+            refusal: refusal::number(refused.why),
+            ikey: refused.layer.ikey,
+            shift_count: refused.layer.shift_count,
+            suffix_start: refused.layer.suffix_start,
         },
     }
 }
 
 // The numbers of a new key beside 0, or three zeros beside the refusal's number.
-pub fn of_made(answer: Made) -> Numbers
+pub fn of_made(answer: Result<Layer, Refusal>) -> Numbers
     ensures { result ≡ numbers_in (said_made answer) }
 {
     match answer {
-        Made::At(at) => Numbers {
+        Ok(at) => Numbers {
             refusal: 0,
             ikey: at.ikey,
             shift_count: at.shift_count,
             suffix_start: at.suffix_start,
         },
-        Made::Refused(why) => Numbers {
+        Err(why) => Numbers {
             refusal: refusal::number(why),
             ikey: 0,
             shift_count: 0,

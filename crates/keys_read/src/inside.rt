@@ -6,7 +6,7 @@ ghost use Rattle.order.specs.Layer.{big_endian};
 fn wide(x: u8) -> u64
     ensures { (result ≡ x) × (result < 256) }
 {
-    x as u64
+    u64::from(x)
 }
 
 // Four bytes from an offset on, the first one highest.
@@ -36,11 +36,9 @@ pub fn read_ikey_slow(rest: &[u8]) -> u64
     ensures { result ≡ big_endian 8 rest.now }
 {
     let mut ikey: u64 = 0;
-    let mut i: usize = 0;
     // `ikey` has the first i bytes, with zeros for those past the end.
-    while i < 8 {
+    for i in 0..8 {
         ikey = ikey * 256 + byte_or_zero(rest, i);
-        i += 1;
     }
     ikey
 }
@@ -49,8 +47,8 @@ pub fn read_ikey_slow(rest: &[u8]) -> u64
 fn byte_or_zero(rest: &[u8], i: usize) -> u64
     ensures { (result ≡ get_or rest.now i 0) × (result < 256) }
 {
-    if i < rest.len() {
-        return wide(rest[i]);
+    match rest.get(i) {
+        Some(x) => wide(*x),
+        None => 0,
     }
-    0
 }

@@ -1,16 +1,16 @@
 // An answer of a reader of labels taken apart for C: its number to return, what the label says into the lent numbers, or its edition byte.
-#![tactic(auto)]
+#![tactic(auto, using(crate::proofs::Crosses::crossings))]
 
 ghost use Rattle.std.specs.Prelude.{[], ◌∷◌};
 ghost use Rattle.label_read.specs.Answers.{said_label, said_first_label};
 ghost use Rattle.crossing.specs.Told.{CrossedBoth};
 
-use label_read::{FirstLabel, Label};
+use label_read::{FirstLabel, Label, Unknown};
 
 // Writes the edition and the fields of a label and returns 0. Where it is none, returns 19, and the edition byte is written into the number
 // that is lent for it.
 pub fn give_label(
-    answer: Label,
+    answer: Result<Label, Unknown>,
     edition: &mut u8,
     station: &mut u16,
     burst: &mut u32,
@@ -23,30 +23,34 @@ pub fn give_label(
         (told.old ∷ []) (told.new ∷ []) }
 {
     match answer {
-        Label::First {
-            station: s,
-            burst: b,
-            frame: f,
-        } => {
+        Ok(
+            Label::First {
+                station: s,
+                burst: b,
+                frame: f,
+            },
+        ) => {
             *edition = 1;
             *station = s;
             *burst = b;
-            *frame = f as u16;
+            *frame = u16::from(f);
             0
         }
-        Label::Second {
-            station: s,
-            burst: b,
-            frame: f,
-        } => {
+        Ok(
+            Label::Second {
+                station: s,
+                burst: b,
+                frame: f,
+            },
+        ) => {
             *edition = 2;
             *station = s;
             *burst = b;
             *frame = f;
             0
         }
-        Label::Unknown(byte) => {
-            *told = byte as u64;
+        Err(unknown) => {
+            *told = u64::from(unknown.edition);
             19
         }
     }
@@ -55,7 +59,7 @@ pub fn give_label(
 // Writes the fields of a label of edition 1 and returns 0. Where it is none, returns 19, and the edition byte is written into the number
 // that is lent for it.
 pub fn give_first_label(
-    answer: FirstLabel,
+    answer: Result<FirstLabel, Unknown>,
     station: &mut u16,
     burst: &mut u32,
     frame: &mut u8,
@@ -67,18 +71,14 @@ pub fn give_first_label(
         (told.old ∷ []) (told.new ∷ []) }
 {
     match answer {
-        FirstLabel::Fields {
-            station: its_station,
-            burst: its_burst,
-            frame: its_frame,
-        } => {
-            *station = its_station;
-            *burst = its_burst;
-            *frame = its_frame;
+        Ok(label) => {
+            *station = label.station;
+            *burst = label.burst;
+            *frame = label.frame;
             0
         }
-        FirstLabel::Unknown(byte) => {
-            *told = byte as u64;
+        Err(unknown) => {
+            *told = u64::from(unknown.edition);
             19
         }
     }

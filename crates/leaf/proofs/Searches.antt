@@ -2,7 +2,7 @@
 use Prim.Native.Nat.{ℕ, ◌+◌, ◌*◌, ◌-◌, ◌%◌, ◌≤◌, ◌<◌, Ordering}
 use mathlib.Core.Path.{◌≡◌, refl, sym, ap, ◌∙◌}
 use mathlib.Core.Bool.{Bool, true, false, not}
-use mathlib.Core.List.{List, [], ◌∷◌}
+use mathlib.Core.List.{List}
 use native.Mathlib.Omega.{arith}
 use native.Mathlib.Decide.{dec_lt}
 use lib.Dec.{compare_is_eq}
@@ -15,13 +15,12 @@ use Rattle.refusal.specs.declared.Refusal.TheVariants.{Node, Key, Memory}
 use Rattle.bank.specs.Bank.{slot_at}
 use Rattle.nibbles.specs.Words.{valid_word}
 use Rattle.order.specs.Layer.{class_of, class_at}
-use Rattle.ikey.specs.declared.Ordering.{Ordering as Ordered}
-use Rattle.ikey.specs.declared.Ordering.TheVariants.{Less, Equal, Greater}
+use Rattle.std.specs.declared.cmp.Ordering.{Ordering as Ordered}
+use Rattle.std.specs.declared.cmp.Ordering.TheVariants.{Less, Equal, Greater}
 use Rattle.ikey.specs.Said.{order_of}
 use Rattle.key_layer.specs.Keys.{fits}
 use Rattle.key_layer.proofs.Fitting.{suffix_within}
 use Rattle.lent_cells.proofs.Cells.{lent-right, cell-right}
-pub use Rattle.lent_cells.proofs.Cells.{suffix-less, suffix-equal, suffix-greater}
 use Rattle.leaf_entries.specs.declared.Entry.{Entry}
 use Rattle.leaf.specs.Leaf.{none, slots_of, entries_in_order, against, is_less, lent_right, Lent, Cell, of_kind, good_entries}
 use Rattle.leaf.specs.Search.{
@@ -49,21 +48,21 @@ use Rattle.leaf_entries.proofs.Judged.{kind-has-cell, good-parts}
 -- ---- the entry that has the key's ikey and class
 
 module _ (cells bytes key : List ℕ) (start : ℕ) (e : Entry) (slot : ℕ) where
-  pub met-layer : e.class ≡ 10 → accepted (layer slot) ≡ accepted (met_with cells bytes key start e slot)
+  pub met-layer : e.class ≡ 10 → layer slot ≡ met_with cells bytes key start e slot
   unfolding met_with
   met-layer h = rw (eq-eqb e.class 10 h)
 
   module _ (h : e.class ≡ 10 → ⊥) where
-    pub met-short : (e.class ≡ 9 → ⊥) → accepted (found slot) ≡ accepted (met_with cells bytes key start e slot)
+    pub met-short : (e.class ≡ 9 → ⊥) → found slot ≡ met_with cells bytes key start e slot
     unfolding met_with
     met-short q = rw (ne_eqb e.class 10 h, ne_eqb e.class 9 q)
 
     module _ (q : e.class ≡ 9) {r : Bool} (d : r ≡ same_bytes (stored_suffix cells bytes e.at start) (drop start key)) where
-      pub met-found : r ≡ true → accepted (found slot) ≡ accepted (met_with cells bytes key start e slot)
+      pub met-found : r ≡ true → found slot ≡ met_with cells bytes key start e slot
       unfolding met_with
       met-found t = rw (ne_eqb e.class 10 h, eq-eqb e.class 9 q, ← d, t)
 
-      pub met-conflict : r ≡ false → accepted (conflict slot) ≡ accepted (met_with cells bytes key start e slot)
+      pub met-conflict : r ≡ false → conflict slot ≡ met_with cells bytes key start e slot
       unfolding met_with
       met-conflict t = rw (ne_eqb e.class 10 h, eq-eqb e.class 9 q, ← d, t)
 
@@ -107,15 +106,15 @@ module _ {word : ℕ} {entries : List Entry} {cells bytes key : List ℕ} {ikey 
   not-less h = rw h
 
   outcome-none : {p : ℕ} → length view ≡ place_equal ikey class view → p ≡ place_greater ikey class view
-      → accepted (not_found p) ≡ accepted answer
+      → not_found p ≡ answer
   unfolding outcome
   outcome-none d e = rw (← d, le-ltb (length view) (length view) (omega arith), e)
 
-  pub scan-end : (i : ℕ) → size ≤ i → i ≤ size → Before i → accepted (not_found i) ≡ accepted answer
-  scan-end i l h f =
+  pub scan-end : (i : ℕ) → size ≤ i → Before i → not_found size ≡ answer
+  scan-end i l f =
       outcome-none
       (first-none (λ e. compare_is_eq (against ikey class e)) none view (λ k m. not_equal (f k (omega (arith, long)))))
-      ((let z : i ≡ length view = omega (arith, long) in z)
+      (sym long
       ∙ first-none (λ e. is_less (against ikey class e)) none view (λ k m. not-less (f k (omega (arith, long)))))
 
   module _ (i : ℕ) {slot len : ℕ} (r : Ordered) (el : len ≡ length key - 8 * shifts) (l : i < size) (f : Before i)
@@ -130,8 +129,7 @@ module _ {word : ℕ} {entries : List Entry} {cells bytes key : List ℕ} {ikey 
     pub scan-on : r ≡ Greater → (k : ℕ) → k < i + 1 → against ikey class (get_or view k none) ≡ Ordering.gt
     scan-on q = below_more _ i f (compared ∙ ap order_of q)
 
-    pub scan-met : {x : Answer} → r ≡ Equal → x ≡ accepted (met_with cells bytes key start (get_or entries slot none) slot)
-        → x ≡ accepted answer
+    pub scan-met : {x : List ℕ} → r ≡ Equal → x ≡ met_with cells bytes key start (get_or entries slot none) slot → x ≡ answer
     unfolding outcome
     scan-met q e =
         let p : i ≡ place_equal ikey class view
@@ -149,7 +147,7 @@ module _ {word : ℕ} {entries : List Entry} {cells bytes key : List ℕ} {ikey 
               (compared ∙ ap order_of q))
         ]
 
-    pub scan-less : r ≡ Less → accepted (not_found i) ≡ accepted answer
+    pub scan-less : r ≡ Less → not_found i ≡ answer
     scan-less q =
         outcome-none
         (first-none (λ e. compare_is_eq (against ikey class e)) none view (apart q))
@@ -194,10 +192,10 @@ module _ (word : ℕ) (entries : List Entry) (cells bytes key : List ℕ) (ikey 
         → Searchable word entries cells bytes key ikey shifts start
     lent-searchable q v l = record { word-valid = v; lent = l; good = told-yes eg qg; fit = told-yes ef q }
 
-    pub lent-outcome : {x : Answer} → not f ≡ false
-        → x ≡ accepted (outcome word entries cells bytes key ikey (class_at key (8 * shifts)) start) → x ≡ among
+    pub lent-outcome : {x : List ℕ} → not f ≡ false
+        → x ≡ outcome word entries cells bytes key ikey (class_at key (8 * shifts)) start → accepted x ≡ among
     unfolding lent_said
-    lent-outcome q e = e ∙ rw (← eg, not-false g qg, ← ef, not-false f q)
+    lent-outcome q e = ap accepted e ∙ rw (← eg, not-false g qg, ← ef, not-false f q)
 
 module _ (word : ℕ) (entries : List Entry) (cells bytes key : List ℕ) (ikey shifts start : ℕ) {v : Bool} (ev : v ≡ valid_word 15 word) where
   abbrev said : Answer

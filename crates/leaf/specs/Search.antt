@@ -1,6 +1,7 @@
 -- The search of a leaf: what it answers, by document 01's numbers.
 use Prim.Native.Nat.{Ordering}
 use Rattle.std.specs.Prelude.{ℕ, ◌*◌, ◌≤◌, ◌<◌, ◌≡◌, true, false, cond, not, ◌&&◌, ◌||◌, List, [], ◌∷◌, ltb, eqb, length, get_or, drop}
+use Rattle.std.specs.Prelude.{Result, Ok, Err}
 use Rattle.std.proofs.Math.Dec.{compare_is_eq}
 use Rattle.refusal.specs.Answer.{Answer, Rule, accepted, refused, answered, ◌unless◌}
 use Rattle.bank.specs.Bank.{slot_at}
@@ -11,8 +12,9 @@ use Rattle.key_layer.specs.Keys.{fits}
 pub use Rattle.lent_cells.specs.Cells.{stored_key, same_bytes}
 unfoldable pub use Rattle.lent_cells.specs.Cells.{stored_suffix}
 use Rattle.leaf_entries.specs.declared.Entry.{Entry}
-use Rattle.leaf.specs.declared.Searched.{Searched}
-use Rattle.leaf.specs.declared.Searched.TheVariants.{Found, Conflict, Layer, NotFound, Refused}
+use Rattle.leaf.specs.declared.Outcome.{Outcome}
+use Rattle.leaf.specs.declared.Outcome.TheVariants.{Found, Conflict, Layer, NotFound}
+use Rattle.leaf.specs.declared.Refused.{Refused}
 use Rattle.leaf.specs.Lists.{first_where}
 use Rattle.leaf.specs.Leaf.{none, slots_of, entries_in_order, rank, against, is_less, lent_right, good_entries}
 
@@ -36,13 +38,17 @@ not_found position = 3 ∷ position ∷ []
 abbrev pub given_back : ℕ → ℕ → ℕ → ℕ → List ℕ
 given_back word ikey shifts start = word ∷ ikey ∷ shifts ∷ start ∷ []
 
--- what each case of the answer says: 0, the outcome and its number, or the refusal's number and what was given
-abbrev pub said_searched : Searched → Answer
-said_searched (Found slot) = accepted (found slot)
-said_searched (Conflict slot) = accepted (conflict slot)
-said_searched (Layer slot) = accepted (layer slot)
-said_searched (NotFound position) = accepted (not_found position)
-said_searched (Refused why word ikey shifts start) = refused why (given_back word ikey shifts start)
+-- the values of each outcome: which it is, and its number
+abbrev pub values_of : Outcome → List ℕ
+values_of (Found slot) = found slot
+values_of (Conflict slot) = conflict slot
+values_of (Layer slot) = layer slot
+values_of (NotFound position) = not_found position
+
+-- what the answer says: 0, the outcome and its number, or the refusal's number and what was given
+abbrev pub said_searched : Result Outcome Refused → Answer
+said_searched (Ok met) = accepted (values_of met)
+said_searched (Err r) = refused r.why (given_back r.word r.ikey r.shift_count r.suffix_start)
 
 -- the outcome at an entry with the key's ikey and class: a link is a layer; of two longer ones the suffixes decide between
 -- found and conflict; with up to 8 bytes ikey and length say all

@@ -10,20 +10,23 @@ use refusal::Refusal;
 
 pub mod inside;
 
-// What a search finds: the slot of the entry that it met, or the position where the key belongs. Refused, the word and the key's numbers.
+// What a search finds: the slot of the entry that it met, or the position where the key belongs.
 #[derive(Clone, Copy)]
-pub enum Searched {
+pub enum Outcome {
     Found(usize),
     Conflict(usize),
     Layer(usize),
     NotFound(usize),
-    Refused {
-        why: Refusal,
-        word: u64,
-        ikey: u64,
-        shift_count: usize,
-        suffix_start: usize,
-    },
+}
+
+// A refused search: why, and the word and the key's numbers as they were given.
+#[derive(Clone, Copy)]
+pub struct Refused {
+    pub why: Refusal,
+    pub word: u64,
+    pub ikey: u64,
+    pub shift_count: usize,
+    pub suffix_start: usize,
 }
 
 // The entry for a key in a leaf, or the place where one belongs.
@@ -36,7 +39,7 @@ pub fn search(
     ikey: u64,
     shift_count: usize,
     suffix_start: usize,
-) -> Searched
+) -> Result<Outcome, Refused>
     ensures { said_searched result ≡ search_said word entries cells.now bytes.now key.now ikey
         shift_count suffix_start }
 {

@@ -1,6 +1,6 @@
 -- A law for each way in which a judgement of an entry or of a leaf returns. Assumes nothing.
 use Prim.Native.Nat.{ℕ, suc, ◌+◌, ◌-◌, ◌%◌, ◌≤◌, ◌<◌, Ordering}
-use mathlib.Core.Path.{◌≡◌, sym, ap, ◌∙◌}
+use mathlib.Core.Path.{◌≡◌, refl, sym, ap, ◌∙◌}
 use mathlib.Core.Bool.{Bool, true, false, not}
 use mathlib.Core.List.{List}
 use native.Mathlib.Omega.{arith}
@@ -11,8 +11,9 @@ use borrow.Author.Rules.{rules}
 use borrow.Author.Tests.{le-leb, lt-leb, eq-eqb, ne_eqb, not-true, not-false}
 use Rattle.bank.specs.Bank.{slot_at}
 use Rattle.nibbles.specs.Words.{valid_word}
-use Rattle.ikey.specs.declared.Ordering.{Ordering as Ordered}
-use Rattle.ikey.specs.declared.Ordering.TheVariants.{Less, Equal, Greater}
+use Rattle.std.specs.Ordering.{is_lt}
+use Rattle.std.specs.declared.cmp.Ordering.{Ordering as Ordered}
+use Rattle.std.specs.declared.cmp.Ordering.TheVariants.{Less, Equal, Greater}
 use Rattle.ikey.specs.Said.{order_of}
 use Rattle.lent_cells.specs.Cells.{cell_right}
 use Rattle.leaf_entries.specs.declared.Entry.{Entry}
@@ -45,15 +46,13 @@ module _ (cells : List ℕ) (e : Entry) where
 
 -- ---- the test of a comparison
 
-module _ {r : Ordered} {o : Ordering} (e : order_of r ≡ o) where
-  pub tested-less : r ≡ Less → true ≡ is_less o
-  tested-less q = rw (← e, q)
-
-  pub tested-equal : r ≡ Equal → false ≡ is_less o
-  tested-equal q = rw (← e, q)
-
-  pub tested-greater : r ≡ Greater → false ≡ is_less o
-  tested-greater q = rw (← e, q)
+pub tested : (r : Ordered) {o : Ordering} → order_of r ≡ o → {b : Bool} → b ≡ is_lt r → b ≡ is_less o
+tested r e q = q ∙ by r ∙ ap is_less e
+  where
+    by : (x : Ordered) → is_lt x ≡ is_less (order_of x)
+    by Less = refl
+    by Equal = refl
+    by Greater = refl
 
 -- ---- the entries in use, one after the other
 
@@ -113,26 +112,8 @@ module _ (word : ℕ) (v : valid_word 15 word ≡ true) (entries : List Entry) {
 -- both judgements of the entries
 
 module _ (cells : List ℕ) (es : List Entry) where
-  pub good-kind : {k : Bool} → k ≡ every (of_kind cells) es → not k ≡ true → false ≡ good_entries cells es
-  unfolding good_entries
-  good-kind {k} e q = rw (← e, not-true k q)
-
-  pub good-rising : {k o : Bool} → k ≡ every (of_kind cells) es → not k ≡ false → o ≡ rising es → o ≡ good_entries cells es
-  unfolding good_entries
-  good-rising {k} e q d = rw (← e, not-false k q) d
-
   pub good-parts : good_entries cells es ≡ true → (every (of_kind cells) es ≡ true) × (rising es ≡ true)
   unfolding good_entries
   good-parts e = both {a = every (of_kind cells) es} e
 
-pub ruleset judged = (
-  rules,
-  kind-beyond,
-  kind-link,
-  kind-cell,
-  tested-less,
-  tested-equal,
-  tested-greater,
-  good-kind,
-  good-rising,
-)
+pub ruleset judged = (rules, tested)

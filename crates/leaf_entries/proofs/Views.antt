@@ -14,8 +14,8 @@ use Rattle.bank.specs.Bank.{Bank, width, slot_at}
 use Rattle.bank.specs.Calls.{from_value}
 use Rattle.bank.specs.Holder.{changed_in}
 use Rattle.bank.proofs.Counts.{slot_lt}
-use Rattle.slot_answers.specs.declared.Changed.{Changed}
-use Rattle.slot_answers.specs.declared.Changed.TheVariants as C
+use Rattle.std.specs.Prelude.{Result, Ok, Err, is_ok}
+use Rattle.slot_answers.specs.declared.Refused.{Refused}
 use Rattle.permuter.specs.Answers.{said_changed}
 use Rattle.nibbles.specs.Nibbles.{nibbles}
 use Rattle.nibbles.specs.Words.{bank_of, word_of, valid_word}
@@ -44,24 +44,22 @@ module _ (b : Bank) (entries : List Entry) (h : b.size ≤ width b) where
 -- ---- a leaf's slot word
 
 -- the judgement of the word
-module _ (word : ℕ) {r : Changed} (e : said_changed r ≡ changed 15 word from_value) where
-  pub valid-yes : {x : ℕ} → r ≡ C.Word x → true ≡ valid_word 15 word
-  unfolding changed_in
-  valid-yes {x} q = by (valid_word 15 word) (sym (ap said_changed q) ∙ e)
-    where
-      by : (p : Bool) → accepted (x ∷ []) ≡ cond p (accepted (word_of (bank_of 15 word) ∷ [])) (record { number = 2; values = word ∷ [] })
-          → true ≡ p
-      by true d = refl
-      by false d = absurd (let z : ◌≡◌ {A = ℕ} 0 2 = ap (λ (a : Answer). a.number) d in omega arith)
-
-  pub valid-no : {why : Refusal} {x : ℕ} → r ≡ C.Refused why x → false ≡ valid_word 15 word
-  unfolding changed_in
-  valid-no {why} {x} q = by (valid_word 15 word) (sym (ap said_changed q) ∙ e)
-    where
-      by : (p : Bool) → refused why (x ∷ []) ≡ cond p (accepted (word_of (bank_of 15 word) ∷ [])) (record { number = 2; values = word ∷ [] })
-          → false ≡ p
-      by true d = absurd (omega (arith, ap (λ (a : Answer). a.number) d, number-pos why))
-      by false d = refl
+pub valid-ok : (word : ℕ) (r : Result ℕ Refused) {b : Bool} → said_changed r ≡ changed 15 word from_value → b ≡ is_ok r
+    → b ≡ valid_word 15 word
+unfolding changed_in
+valid-ok word (Ok x) e d = d ∙ by (valid_word 15 word) e
+  where
+    by : (p : Bool) → accepted (x ∷ []) ≡ cond p (accepted (word_of (bank_of 15 word) ∷ [])) (record { number = 2; values = word ∷ [] })
+        → true ≡ p
+    by true d = refl
+    by false d = absurd (let z : ◌≡◌ {A = ℕ} 0 2 = ap (λ (a : Answer). a.number) d in omega arith)
+valid-ok word (Err r) e d = d ∙ by (valid_word 15 word) e
+  where
+    by : (p : Bool)
+        → refused r.why (r.word ∷ []) ≡ cond p (accepted (word_of (bank_of 15 word) ∷ [])) (record { number = 2; values = word ∷ [] })
+        → false ≡ p
+    by true d = absurd (omega (arith, ap (λ (a : Answer). a.number) d, number-pos r.why))
+    by false d = refl
 
 -- the slot at a position
 pub slot-in-word : (word i : ℕ) → i < 15 → {slot : ℕ} → slot ≡ word / 2 ^ (4 * (i + 1)) % 16 → slot ≡ slot_at i (slots_of word)
@@ -92,4 +90,4 @@ module _ (word : ℕ) (v : valid_word 15 word ≡ true) where
     entry-in-order i l e =
         viewed-at (slots_of word) entries size-in-width i l ∙ ap (λ (s : ℕ). get_or entries s none) (sym e)
 
-pub ruleset words = (rules, valid-yes, valid-no, slot-in-word, slot-fifteen)
+pub ruleset words = (rules, valid-ok, slot-in-word, slot-fifteen)

@@ -9,20 +9,16 @@ ghost use Rattle.leaf_entries.specs.Lists.{every};
 ghost use Rattle.leaf_entries.specs.Leaf.{slots_of, entries_in_order, against, less, rising, of_kind, good_entries};
 
 use crate::Entry;
-use ikey::Ordering;
 use lent_cells::inside::is_cell;
 use nibbles::inside::nibble;
 pub use nibbles::inside::size_of;
-use permuter::Changed;
+use std::cmp::Ordering;
 
 // Whether a leaf's slot word is valid, at width 15.
 pub fn is_valid(word: u64) -> bool
     ensures { result ≡ valid_word 15 word }
 {
-    let Changed::Word(_) = permuter::from_value(word, 15) else {
-        return false;
-    };
-    true
+    permuter::from_value(word, 15).is_ok()
 }
 
 // The slot at a position of any word.
@@ -45,13 +41,7 @@ pub fn slot_at(word: u64, i: usize) -> usize
 pub fn is_of_kind(cells: &[u64], e: Entry) -> bool
     ensures { result ≡ of_kind cells.now e }
 {
-    if 10 < e.class {
-        return false;
-    }
-    if e.class == 10 {
-        return true;
-    }
-    is_cell(cells, e.at)
+    e.class <= 10 && (e.class == 10 || is_cell(cells, e.at))
 }
 
 // Whether every entry in use is of the kind that a leaf holds.
@@ -60,15 +50,12 @@ pub fn are_of_kind(word: u64, entries: [Entry; 15], cells: &[u64]) -> bool
     ensures { result ≡ every (of_kind cells.now) (entries_in_order word entries) }
 {
     let size = size_of(word);
-    let mut i: usize = 0;
     // The entries before position i are of that kind.
-    while i < size {
+    for i in 0..size {
         let slot = slot_at(word, i);
-        let e = entries[slot];
-        if !is_of_kind(cells, e) {
+        if !is_of_kind(cells, entries[slot]) {
             return false;
         }
-        i += 1;
     }
     true
 }
@@ -84,12 +71,7 @@ pub fn compare(ikey: u64, length: usize, e: Entry) -> Ordering
 pub fn is_less(e: Entry, d: Entry) -> bool
     ensures { result ≡ less e d }
 {
-    let order = compare(e.ikey, e.class as usize, d);
-    match order {
-        Ordering::Less => true,
-        Ordering::Equal => false,
-        Ordering::Greater => false,
-    }
+    compare(e.ikey, e.class as usize, d).is_lt()
 }
 
 // Whether the entries in use strictly rise.
@@ -98,17 +80,13 @@ pub fn are_rising(word: u64, entries: [Entry; 15]) -> bool
     ensures { result ≡ rising (entries_in_order word entries) }
 {
     let size = size_of(word);
-    let mut i: usize = 1;
     // The entries before position i strictly rise.
-    while i < size {
+    for i in 1..size {
         let before = slot_at(word, i - 1);
         let slot = slot_at(word, i);
-        let e = entries[before];
-        let d = entries[slot];
-        if !is_less(e, d) {
+        if !is_less(entries[before], entries[slot]) {
             return false;
         }
-        i += 1;
     }
     true
 }
@@ -118,8 +96,5 @@ pub fn are_good(word: u64, entries: [Entry; 15], cells: &[u64]) -> bool
     requires { valid_word 15 word ≡ true }
     ensures { result ≡ good_entries cells.now (entries_in_order word entries) }
 {
-    if !are_of_kind(word, entries, cells) {
-        return false;
-    }
-    are_rising(word, entries)
+    are_of_kind(word, entries, cells) && are_rising(word, entries)
 }

@@ -1,19 +1,20 @@
 -- A law for each way in which a judgement of lent cells, or the comparison of a stored suffix, returns. Assumes nothing.
-use Prim.Native.Nat.{ℕ, ◌+◌, ◌*◌, ◌-◌, ◌/◌, ◌%◌, ◌≤◌, ◌<◌, min}
+use Prim.Native.Nat.{ℕ, ◌+◌, ◌*◌, ◌-◌, ◌%◌, min}
 use mathlib.Core.Path.{◌≡◌, refl, sym, ap, ap₂, ◌∙◌}
 use mathlib.Core.Bool.{Bool, true, false, ◌&&◌}
 use mathlib.Core.List.{List}
 use native.Mathlib.Omega.{arith}
 use native.Mathlib.Decide.{dec_lt}
-use lib.Dec.{leb, ltb, eqb}
+use lib.Dec.{leb, ltb, eqb, compare_is_eq}
+use Rattle.std.specs.Ordering.{is_eq}
 use lib.ListN.{length, get_or, take, drop}
 use lib.Seq.{drop-drop}
 use borrow.Author.Rules.{rules}
-use borrow.Author.Tests.{lt-ltb, le-ltb, le-leb, lt-leb, eq-eqb, ne_eqb, leb-true, ltb-true, eqb-true}
+use borrow.Author.Tests.{leb-true, ltb-true, eqb-true}
 use Rattle.bank.proofs.Moves.{drop-take}
 use Rattle.order.specs.Bytes.{bytewise}
-use Rattle.ikey.specs.declared.Ordering.{Ordering as Ordered}
-use Rattle.ikey.specs.declared.Ordering.TheVariants.{Less, Equal, Greater}
+use Rattle.std.specs.declared.cmp.Ordering.{Ordering as Ordered}
+use Rattle.std.specs.declared.cmp.Ordering.TheVariants.{Less, Equal, Greater}
 use Rattle.ikey.specs.Said.{order_of}
 use Rattle.ikey.proofs.Ikeys.{rest_of}
 use Rattle.lent_cells.specs.Cells.{length_word, cells_in, lent_right, Lent, cell_right, Cell, stored_suffix, same_bytes}
@@ -29,25 +30,6 @@ both {a = false} e = never (sym e)
 
 -- ---- the lent lengths
 
-module _ (cells bytes : List ℕ) where
-  pub lent-odd : (length cells % 2 ≡ 0 → ⊥) → false ≡ lent_right cells bytes
-  unfolding lent_right
-  lent-odd h = rw (ne_eqb (length cells % 2) 0 h)
-
-  module _ (even : length cells % 2 ≡ 0) where
-    pub lent_none : length cells / 2 < 1 → false ≡ lent_right cells bytes
-    unfolding lent_right
-    lent_none h = rw (eq-eqb (length cells % 2) 0 even, lt-leb 1 (length cells / 2) h)
-
-    module _ (some : 1 ≤ length cells / 2) where
-      pub lent-many : 255 < length cells / 2 → false ≡ lent_right cells bytes
-      unfolding lent_right
-      lent-many h = rw (eq-eqb (length cells % 2) 0 even, le-leb 1 (length cells / 2) some, lt-leb (length cells / 2) 255 h)
-
-      pub lent-bytes : length cells / 2 ≤ 255 → eqb (length bytes) (256 * (length cells / 2)) ≡ lent_right cells bytes
-      unfolding lent_right
-      lent-bytes h = rw (eq-eqb (length cells % 2) 0 even, le-leb 1 (length cells / 2) some, le-leb (length cells / 2) 255 h)
-
 -- what right lent lengths say
 pub lent-right : (cells bytes : List ℕ) → lent_right cells bytes ≡ true → Lent cells bytes
 unfolding lent_right
@@ -62,20 +44,6 @@ lent-right cells bytes e =
     }
 
 -- ---- a cell
-
-module _ (cells : List ℕ) (cell : ℕ) where
-  pub cell-beyond : length cells / 2 ≤ cell → false ≡ cell_right cells cell
-  unfolding cell_right
-  cell-beyond h = rw (le-ltb cell (length cells / 2) h)
-
-  module _ (here : cell < length cells / 2) where
-    pub cell_free : {n : ℕ} → n ≡ get_or cells (2 * cell) 0 → n < 1 → false ≡ cell_right cells cell
-    unfolding cell_right
-    cell_free e h = rw (lt-ltb cell (length cells / 2) here, lt-leb 1 (get_or cells (2 * cell) 0) (omega arith))
-
-    pub cell-length : {n : ℕ} → n ≡ get_or cells (2 * cell) 0 → 1 ≤ n → leb n 257 ≡ cell_right cells cell
-    unfolding cell_right
-    cell-length e h = rw (lt-ltb cell (length cells / 2) here, le-leb 1 (get_or cells (2 * cell) 0) (omega arith), e)
 
 -- what a right cell is
 pub cell-right : (cells : List ℕ) (cell : ℕ) → cell_right cells cell ≡ true → Cell cells cell
@@ -115,25 +83,15 @@ module _ (cells bytes : List ℕ) (cell : ℕ) (key : List ℕ) (start : ℕ) (r
   unfolding stored_suffix
   suffixes = o ∙ ap₂ bytewise (part-from bytes (256 * cell) (get_or cells (2 * cell) 0 - 1) start m e) (rest_of key start)
 
-  pub suffix-less : r ≡ Less → false ≡ same_bytes (stored_suffix cells bytes cell start) (drop start key)
-  suffix-less q = rw (← suffixes, q)
-
-  pub suffix-equal : r ≡ Equal → true ≡ same_bytes (stored_suffix cells bytes cell start) (drop start key)
-  suffix-equal q = rw (← suffixes, q)
-
-  pub suffix-greater : r ≡ Greater → false ≡ same_bytes (stored_suffix cells bytes cell start) (drop start key)
-  suffix-greater q = rw (← suffixes, q)
+  pub suffix-same : {b : Bool} → b ≡ is_eq r → b ≡ same_bytes (stored_suffix cells bytes cell start) (drop start key)
+  suffix-same q = q ∙ by r ∙ ap compare_is_eq suffixes
+    where
+      by : (q : Ordered) → is_eq q ≡ compare_is_eq (order_of q)
+      by Less = refl
+      by Equal = refl
+      by Greater = refl
 
 pub ruleset cells = (
   rules,
-  lent-odd,
-  lent_none,
-  lent-many,
-  lent-bytes,
-  cell-beyond,
-  cell_free,
-  cell-length,
-  suffix-less,
-  suffix-equal,
-  suffix-greater,
+  suffix-same,
 )

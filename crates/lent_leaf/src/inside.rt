@@ -3,11 +3,17 @@ ghost use Rattle.std.specs.Prelude.{◌≡◌, length};
 ghost use Rattle.leaf.specs.Search.{said_searched};
 ghost use Rattle.lent_leaf.specs.Search.{other_count_said};
 
-use crate::{Entry, Searched};
+use crate::{Entry, Outcome, Refused};
 use refusal::Refusal;
 
 // What is answered where the number of entries is wrong: of the leaf only the word is judged.
-pub fn unlent(word: u64, key: &[u8], ikey: u64, shift_count: usize, suffix_start: usize) -> Searched
+pub fn unlent(
+    word: u64,
+    key: &[u8],
+    ikey: u64,
+    shift_count: usize,
+    suffix_start: usize,
+) -> Result<Outcome, Refused>
     ensures { said_searched result ≡ other_count_said word key.now ikey shift_count suffix_start }
 {
     if !leaf::inside::is_valid(word) {
@@ -21,21 +27,5 @@ pub fn fifteen(entries: &[Entry]) -> [Entry; 15]
     requires { length entries.now ≡ 15 }
     ensures { result ≡ entries.now }
 {
-    [
-        entries[0],
-        entries[1],
-        entries[2],
-        entries[3],
-        entries[4],
-        entries[5],
-        entries[6],
-        entries[7],
-        entries[8],
-        entries[9],
-        entries[10],
-        entries[11],
-        entries[12],
-        entries[13],
-        entries[14],
-    ]
+    <[Entry; 15]>::try_from(entries).unwrap()
 }

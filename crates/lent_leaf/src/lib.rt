@@ -6,7 +6,7 @@ ghost use Rattle.std.specs.Prelude.{◌≡◌};
 ghost use Rattle.leaf.specs.Search.{said_searched};
 ghost use Rattle.lent_leaf.specs.Search.{lent_search_said};
 
-pub use leaf::{Entry, Searched};
+pub use leaf::{Entry, Outcome, Refused};
 
 pub mod inside;
 
@@ -20,7 +20,7 @@ pub fn search(
     ikey: u64,
     shift_count: usize,
     suffix_start: usize,
-) -> Searched
+) -> Result<Outcome, Refused>
     ensures { said_searched result ≡ lent_search_said word entries.now cells.now bytes.now
         key.now ikey shift_count suffix_start }
 {

@@ -6,7 +6,7 @@ use Prim.Native.Nat.{ℕ, ◌+◌, ◌≤◌, ◌<◌}
 use native.Mathlib.Omega.{arith}
 use lib.ListN.{length, get_or}
 use borrow.Author.Tests.{eqb-true, eqb-false}
-use Rattle.lent_nodes.specs.declared.inside.Lowest.TheVariants.{At, Nothing}
+use Rattle.std.specs.Prelude.{Some, None}
 use Rattle.lent_words.specs.Parts.{zeros}
 use Rattle.lent_nodes.specs.Layout.{node_start, kind_at, put_node, freed_node, free_words, cell_start, mark_at, put_cell, freed_cell}
 use Rattle.lent_nodes.specs.Free.{is_free, frees, free_nodes, free_cells, lowest}
@@ -17,11 +17,11 @@ use Rattle.lent_nodes.proofs.Frees.{first-passing, lowest-taken, fewer-free, mor
 -- ---- the lowest free number
 
 -- the lowest of a list is its first
-pub lowest-first : (ks : List ℕ) {k : ℕ} → lowest ks ≡ At k → (rest : List ℕ) × (ks ≡ k ∷ rest)
+pub lowest-first : (ks : List ℕ) {k : ℕ} → lowest ks ≡ Some k → (rest : List ℕ) × (ks ≡ k ∷ rest)
 lowest-first [] e = absurd (let z : ◌≡◌ {A = ℕ} 0 1 = cc in omega arith)
 lowest-first (j ∷ ks) {k} e = (ks, let q : j ≡ k = cc in ap (λ (i : ℕ). i ∷ ks) q)
 
-pub lowest-none : (ks : List ℕ) → lowest ks ≡ Nothing → ks ≡ []
+pub lowest-none : (ks : List ℕ) → lowest ks ≡ None → ks ≡ []
 lowest-none [] e = refl
 lowest-none (j ∷ ks) e = absurd (let z : ◌≡◌ {A = ℕ} 0 1 = cc in omega arith)
 
@@ -31,7 +31,7 @@ pub record LowestFree (place : ℕ → ℕ) (xs : List ℕ) (n k : ℕ) : Type 0
   pub is-free : get_or xs (place k) 0 ≡ 0
   pub below-used : (j : ℕ) → j < k → get_or xs (place j) 0 ≡ 0 → ⊥
 
-pub lowest-free : (place : ℕ → ℕ) (xs : List ℕ) (n : ℕ) {k : ℕ} → lowest (frees place xs n) ≡ At k → LowestFree place xs n k
+pub lowest-free : (place : ℕ → ℕ) (xs : List ℕ) (n : ℕ) {k : ℕ} → lowest (frees place xs n) ≡ Some k → LowestFree place xs n k
 lowest-free place xs n e =
     let r = first-passing (is_free place xs) 0 n (lowest-first (frees place xs n) e).1 in
     record {
@@ -41,7 +41,7 @@ lowest-free place xs n e =
     }
 
 -- where there is none, all n are in use
-pub none_free : (place : ℕ → ℕ) (xs : List ℕ) (n : ℕ) → lowest (frees place xs n) ≡ Nothing → (j : ℕ) → j < n → get_or xs (place j) 0 ≡ 0 → ⊥
+pub none_free : (place : ℕ → ℕ) (xs : List ℕ) (n : ℕ) → lowest (frees place xs n) ≡ None → (j : ℕ) → j < n → get_or xs (place j) 0 ≡ 0 → ⊥
 none_free place xs n e j l = eqb-false _ _ (all-used (is_free place xs) 0 n (lowest-none _ e) j (omega arith) (omega arith))
 
 -- ---- nodes; `ws` are the words stored

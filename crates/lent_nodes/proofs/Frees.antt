@@ -11,7 +11,7 @@ use native.Mathlib.Omega.{arith}
 use lib.ListN.{length, get_or}
 use lib.Dec.{eqb}
 use borrow.Author.Tests.{eq-eqb, ne_eqb}
-use Rattle.lent_nodes.specs.declared.inside.Lowest.TheVariants.{At, Nothing}
+use Rattle.std.specs.Prelude.{Some, None}
 use Rattle.lent_words.specs.Parts.{put_part}
 use Rattle.lent_nodes.specs.Free.{cons_if, passing, is_free, frees, free_cells, every, lowest}
 use Rattle.lent_nodes.specs.Layout.{cell_start}
@@ -179,7 +179,7 @@ module _ (test : ℕ → Bool) (n i : ℕ) (l : i < n) where
   miss t = turn ∙ rw t
 
 module _ (place : ℕ → ℕ) (xs : List ℕ) (n i : ℕ) (l : i < n) where
-  pub found-lowest : Passed (is_free place xs) n i → get_or xs (place i) 0 ≡ 0 → At i ≡ lowest (frees place xs n)
+  pub found-lowest : Passed (is_free place xs) n i → get_or xs (place i) 0 ≡ 0 → Some i ≡ lowest (frees place xs n)
   found-lowest p z = rw (p, hit (is_free place xs) n i l (eq-eqb _ _ z))
 
   pub pass-one : Passed (is_free place xs) n i → (get_or xs (place i) 0 ≡ 0 → ⊥) → Passed (is_free place xs) n (i + 1)
@@ -202,7 +202,7 @@ module _ (test : ℕ → Bool) (n i : ℕ) (a : i ≤ n) (b : n ≤ i) where
   unfolding passing
   rest-none = let e : n - i ≡ 0 = omega arith in rw e
 
-  pub none-lowest : Passed test n i → Nothing ≡ lowest (passing test 0 n)
+  pub none-lowest : Passed test n i → None ≡ lowest (passing test 0 n)
   none-lowest p = rw (p, rest-none)
 
   pub all-counted : {found : ℕ} → Counted test n i found → found ≡ length (passing test 0 n)

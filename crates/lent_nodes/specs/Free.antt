@@ -1,7 +1,5 @@
 -- Which nodes and cells are free: those whose first word is 0.
-use Rattle.std.specs.Prelude.{ℕ, zero, suc, ◌+◌, ◌*◌, Bool, true, false, List, [], ◌∷◌, get_or, eqb}
-use Rattle.lent_nodes.specs.declared.inside.Lowest.{Lowest}
-use Rattle.lent_nodes.specs.declared.inside.Lowest.TheVariants.{At, Nothing}
+use Rattle.std.specs.Prelude.{ℕ, zero, suc, ◌+◌, ◌*◌, Bool, true, false, List, [], ◌∷◌, get_or, eqb, Option, Some, None}
 use Rattle.lent_nodes.specs.Layout.{node_start, cell_start}
 
 -- a number in front of a list, where the test holds
@@ -35,6 +33,6 @@ abbrev pub every : ℕ → ℕ → ℕ → ℕ
 every start step k = start + k * step
 
 -- the first of a list of numbers
-abbrev pub lowest : List ℕ → Lowest
-lowest [] = Nothing
-lowest (k ∷ ks) = At k
+abbrev pub lowest : List ℕ → Option ℕ
+lowest [] = None
+lowest (k ∷ ks) = Some k

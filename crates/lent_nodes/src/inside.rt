@@ -6,9 +6,7 @@ ghost use Rattle.lent_nodes.specs.Layout.{node_start, node_end, cell_start, cell
 ghost use Rattle.lent_nodes.specs.Layout.{put_internode, freed_node, mark_at, frame_at, put_cell, put_key, freed_cell, freed_key};
 ghost use Rattle.lent_nodes.specs.Free.{frees, every, free_nodes, free_cells, lowest};
 
-use lent_words::inside::{
-    copy_bytes, put1, put15, put16, words15, words16, zero_bytes, zero_words,
-};
+use lent_words::inside::{copy_bytes, put_words, put1, words_at, zero_bytes, zero_words};
 use memory_layout::{
     CELL_BYTES, CELL_WORDS, CHILDREN, CLASSES, HEADER_WORDS, IKEYS, INTERNODE, LEAF, NODE_WORDS,
     REFS,
@@ -31,13 +29,6 @@ pub struct Internode {
     pub children: [u64; 16],
 }
 
-// The lowest free number, where there is one.
-#[derive(Clone, Copy)]
-pub enum Lowest {
-    At(usize),
-    Nothing,
-}
-
 // ---- nodes
 
 // Writes a leaf to node k: its kind, its slot word and its three columns.
@@ -46,15 +37,11 @@ pub fn store_leaf(nodes: &mut [u64], k: usize, leaf: Leaf)
     ensures { nodes.new ≡ put_leaf nodes.old k leaf }
 {
     let at = HEADER_WORDS + k * NODE_WORDS;
-    let ikeys = leaf.ikeys;
-    let classes = leaf.classes;
-    let refs = leaf.refs;
-    let word = leaf.word;
     put1(nodes, at, LEAF);
-    put1(nodes, at + 1, word);
-    put15(nodes, at + IKEYS, ikeys);
-    put15(nodes, at + CLASSES, classes);
-    put15(nodes, at + REFS, refs);
+    put1(nodes, at + 1, leaf.word);
+    put_words(nodes, at + IKEYS, &leaf.ikeys);
+    put_words(nodes, at + CLASSES, &leaf.classes);
+    put_words(nodes, at + REFS, &leaf.refs);
 }
 
 // Internode k by value.
@@ -64,8 +51,8 @@ pub fn load_internode(nodes: &[u64], k: usize) -> Internode
 {
     let at = HEADER_WORDS + k * NODE_WORDS;
     let n = nodes[at + 1];
-    let ikeys = words15(nodes, at + IKEYS);
-    let children = words16(nodes, at + CHILDREN);
+    let ikeys = words_at::<15>(nodes, at + IKEYS);
+    let children = words_at::<16>(nodes, at + CHILDREN);
     Internode { n, ikeys, children }
 }
 
@@ -75,13 +62,10 @@ pub fn store_internode(nodes: &mut [u64], k: usize, x: Internode)
     ensures { nodes.new ≡ put_internode nodes.old k x }
 {
     let at = HEADER_WORDS + k * NODE_WORDS;
-    let ikeys = x.ikeys;
-    let children = x.children;
-    let n = x.n;
     put1(nodes, at, INTERNODE);
-    put1(nodes, at + 1, n);
-    put15(nodes, at + IKEYS, ikeys);
-    put16(nodes, at + CHILDREN, children);
+    put1(nodes, at + 1, x.n);
+    put_words(nodes, at + IKEYS, &x.ikeys);
+    put_words(nodes, at + CHILDREN, &x.children);
     zero_words(nodes, at + 33, 14);
 }
 
@@ -144,19 +128,17 @@ pub fn key_of<'a>(bytes: &'a [u8], k: usize, len: usize) -> &'a [u8]
 // ---- what is free
 
 // The lowest k below n with a 0 at start + k * step.
-pub fn lowest_zero(words: &[u64], start: usize, step: usize, n: usize) -> Lowest
+pub fn lowest_zero(words: &[u64], start: usize, step: usize, n: usize) -> Option<usize>
     requires { (0 < step) × (every start step n ≤ length words.now) }
     ensures { result ≡ lowest (frees (every start step) words.now n) }
 {
-    let mut i = 0;
     // No k below i has a 0 there.
-    while i < n {
+    for i in 0..n {
         if words[start + i * step] == 0 {
-            return Lowest::At(i);
+            return Some(i);
         }
-        i += 1;
     }
-    Lowest::Nothing
+    None
 }
 
 // How many k below n have a 0 at start + k * step.
@@ -165,21 +147,17 @@ pub fn count_zeros(words: &[u64], start: usize, step: usize, n: usize) -> usize
     ensures { result ≡ length (frees (every start step) words.now n) }
 {
     let mut found = 0;
-    let mut i = 0;
     // `found` of the first i have a 0.
-    while i < n {
+    for i in 0..n {
         if words[start + i * step] == 0 {
             found += 1;
-            i += 1;
-            continue;
         }
-        i += 1;
     }
     found
 }
 
 // The lowest free number of n nodes.
-pub fn lowest_free_node(nodes: &[u64], n: usize) -> Lowest
+pub fn lowest_free_node(nodes: &[u64], n: usize) -> Option<usize>
     requires { node_start n ≤ length nodes.now }
     ensures { result ≡ lowest (free_nodes nodes.now n) }
 {
@@ -195,7 +173,7 @@ pub fn free_nodes(nodes: &[u64], n: usize) -> usize
 }
 
 // The lowest free number of n cells.
-pub fn lowest_free_cell(cells: &[u64], n: usize) -> Lowest
+pub fn lowest_free_cell(cells: &[u64], n: usize) -> Option<usize>
     requires { cell_start n ≤ length cells.now }
     ensures { result ≡ lowest (free_cells cells.now n) }
 {

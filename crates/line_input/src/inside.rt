@@ -3,19 +3,13 @@ ghost use Rattle.std.specs.Prelude.{◌≡◌, ◌≤◌, min, length};
 ghost use Rattle.arena.specs.Parts.{put_part};
 ghost use Rattle.line_input.specs.Input.{taken_from, taken_over};
 
-// How many bytes of a part are used up, how many of the line are kept, and whether the line has ended.
+// How many bytes of a part are used up, how many of the line are kept, and whether the line has ended. No Option: both numbers stand,
+// whether it has or not.
 #[derive(Clone, Copy)]
 pub struct Taken {
     pub used: usize,
     pub kept: usize,
     pub ended: bool,
-}
-
-// The lower of two numbers.
-fn least(a: usize, b: usize) -> usize
-    ensures { result ≡ min a b }
-{
-    if a < b { a } else { b }
 }
 
 // Goes on with a line of which so many bytes are kept, as far as its line feed or the end of the part.
@@ -26,7 +20,7 @@ pub fn take_line(part: &[u8], line: &mut [u8], kept: usize) -> Taken
     ensures used_in_bounds { (result.used ≤ length part.now) × (min 1 (length part.now) ≤ result.used) × (result.kept ≤ 1201) }
 {
     let end = text::first(part, b'\n');
-    let more = least(end, 1201 - kept);
+    let more = end.min(1201 - kept);
     arena::inside::copy_bytes(part, 0, line, kept, more);
     if end < part.len() {
         return Taken {

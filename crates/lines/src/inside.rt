@@ -7,7 +7,7 @@ ghost use Rattle.text.specs.Command.{put as Command·put, find as Command·find,
 ghost use Rattle.lines_list.specs.Room.{Room};
 ghost use Rattle.lines.specs.Answered.{Answered, printed};
 
-use index::{Added, Found, Removed};
+use index::PutRefused;
 use text::inside::Line;
 
 // Puts a key and prints `ok`, without the slots that rest, or the refusal: of 14 the number alone, without the nodes lacking.
@@ -26,9 +26,9 @@ fn put(
 {
     let answer = index::put(nodes, cells, bytes, key, frame);
     match answer {
-        Added::Done { resting: _ } => page::inside::ok(out, 0),
-        Added::TooFewNodes(_) => page::inside::refused(out, 0, 14),
-        Added::Refused(why) => lines_list::inside::refused(out, why),
+        Ok(_) => page::inside::ok(out, 0),
+        Err(PutRefused::TooFewNodes(_lacking)) => page::inside::refused(out, 0, 14),
+        Err(PutRefused::Refused(why)) => lines_list::inside::refused(out, why),
     }
 }
 
@@ -41,8 +41,8 @@ fn del(nodes: &mut [u64], cells: &mut [u64], bytes: &mut [u8], key: &[u8], out: 
 {
     let answer = index::remove(nodes, cells, bytes, key);
     match answer {
-        Removed::Done => page::inside::ok(out, 0),
-        Removed::Refused(why) => lines_list::inside::refused(out, why),
+        Ok(()) => page::inside::ok(out, 0),
+        Err(why) => lines_list::inside::refused(out, why),
     }
 }
 
@@ -55,8 +55,8 @@ fn find(nodes: &[u64], cells: &[u64], bytes: &[u8], key: &[u8], out: &mut [u8]) 
 {
     let answer = index::find(nodes, cells, bytes, key);
     match answer {
-        Found::Frame(frame) => page::inside::number(out, 0, frame),
-        Found::Refused(why) => lines_list::inside::refused(out, why),
+        Ok(frame) => page::inside::number(out, 0, frame),
+        Err(why) => lines_list::inside::refused(out, why),
     }
 }
 

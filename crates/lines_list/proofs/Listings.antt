@@ -6,10 +6,10 @@ use mathlib.Core.List.{List, [], ◌∷◌, ◌++◌, append_assoc, append-nil}
 use native.Mathlib.Numerals.{add-one}
 use native.Mathlib.Omega.{arith}
 use lib.Dec.{ltb}
-use lib.ListN.{length, get_or, take, length-append}
+use lib.ListN.{length, get_or, take, length-append, take-append-drop, drop}
 use lib.Seq.{take-suc, take_all}
-use lib.ListN.{take-append-drop, drop}
 use borrow.Author.Tests.{ltb-true, ltb-false, lt-ltb, not-true, not-false}
+use Rattle.std.specs.Prelude.{Result, Ok, Err}
 use Rattle.refusal.specs.declared.Refusal.{Refusal}
 use Rattle.refusal.specs.Answer.{Answer, accepted}
 use Rattle.refusal.proofs.Laws.{number-pos}
@@ -23,7 +23,6 @@ use Rattle.forest.proofs.Accepts.{tree-found}
 use Rattle.views.proofs.Few.{in-order-listed}
 use Rattle.model.specs.Calls.{kth_said, in_key_order, entry_of}
 use Rattle.index_questions.specs.declared.Listed.{Listed}
-use Rattle.index_questions.specs.declared.Listed.TheVariants as listed-is
 use Rattle.index_questions.specs.Answers.{said_listed}
 use Rattle.page.specs.Shown.{header_line, refused_line, entry_line}
 use Rattle.page.specs.Page.{Typed}
@@ -34,7 +33,7 @@ use Rattle.lines_list.specs.Room.{Room}
 
 -- ---- the k-th entry of a tree
 
-module _ (m : Memory) (k : ℕ) (tree : is_tree m ≡ true) (x : Listed) (e : said_listed x ≡ kth_said m k) where
+module _ (m : Memory) (k : ℕ) (tree : is_tree m ≡ true) (x : Result Listed Refusal) (e : said_listed x ≡ kth_said m k) where
   number-there : k < length (in_key_order m) → said_listed x ≡ accepted (entry_of m (get_or (in_key_order m) k 0))
   unfolding kth_said
   number-there h = e ∙ rw (tree, lt-ltb k (length (in_key_order m)) h) refl
@@ -43,7 +42,7 @@ module _ (m : Memory) (k : ℕ) (tree : is_tree m ≡ true) (x : Listed) (e : sa
   unfolding kth_said
   number-gone h = ap (λ (a : Answer). a.number) e ∙ rw (tree, h) refl
 
-  pub kth-gone : {why : Refusal} → x ≡ listed-is.Refused why → length (in_key_order m) ≤ k
+  pub kth-gone : {why : Refusal} → x ≡ Err why → length (in_key_order m) ≤ k
   kth-gone {why} d =
       decide (ltb k (length (in_key_order m)))
       (λ t.
@@ -51,17 +50,17 @@ module _ (m : Memory) (k : ℕ) (tree : is_tree m ≡ true) (x : Listed) (e : sa
       absurd (omega (arith, number-pos why)))
       (λ t. ltb-false _ _ t)
 
-  pub kth-there : {c l f : ℕ} → x ≡ listed-is.Entry c l f → k < length (in_key_order m)
+  pub kth-there : {entry : Listed} → x ≡ Ok entry → k < length (in_key_order m)
   kth-there d =
       decide (ltb k (length (in_key_order m)))
       (λ t. ltb-true _ _ t)
       (λ t.
-      let z : 0 ≡ 12 = ap (λ (y : Listed). (said_listed y).number) (sym d) ∙ number-gone t in
+      let z : 0 ≡ 12 = ap (λ (y : Result Listed Refusal). (said_listed y).number) (sym d) ∙ number-gone t in
       absurd (omega arith))
 
-  pub kth-cell : {c l f : ℕ} → x ≡ listed-is.Entry c l f
-      → (c ≡ get_or (in_key_order m) k 0) × (l ≡ mark_at m.cells (get_or (in_key_order m) k 0) - 1)
-      × (f ≡ frame_at m.cells (get_or (in_key_order m) k 0))
+  pub kth-cell : {entry : Listed} → x ≡ Ok entry
+      → (entry.cell ≡ get_or (in_key_order m) k 0) × (entry.length ≡ mark_at m.cells (get_or (in_key_order m) k 0) - 1)
+      × (entry.frame ≡ frame_at m.cells (get_or (in_key_order m) k 0))
   kth-cell d =
       let z = ap (λ (a : Answer). a.values) (sym (ap said_listed d) ∙ number-there (kth-there d)) in
       (ap (λ (l : List ℕ). get_or l 0 0) z, ap (λ (l : List ℕ). get_or l 1 0) z, ap (λ (l : List ℕ). get_or l 2 0) z)
@@ -96,28 +95,27 @@ texts-some m cs k =
     let e = ap length (ap (entry_texts m) (sym (take-append-drop k cs)) ∙ texts-append m (take k cs) (drop k cs)) in
     omega (arith, e, length-append (entry_texts m (take k cs)) (entry_texts m (drop k cs)))
 
-module _ (m : Memory) (at k : ℕ) (tree : is_tree m ≡ true) {x : Listed} (e : said_listed x ≡ kth_said m k) {c l f : ℕ}
-    (d : x ≡ listed-is.Entry c l f)
-    (key : List ℕ) (ek : key ≡ part m.bytes (c * 256) l) where
-  text-is : entry_line key f ≡ entry_text m (get_or (in_key_order m) k 0)
+module _ (m : Memory) (at k : ℕ) (tree : is_tree m ≡ true) {x : Result Listed Refusal} (e : said_listed x ≡ kth_said m k)
+    {entry : Listed} (d : x ≡ Ok entry) (key : List ℕ) (ek : key ≡ part m.bytes (entry.cell * 256) entry.length) where
+  text-is : entry_line key entry.frame ≡ entry_text m (get_or (in_key_order m) k 0)
   text-is = let g = kth-cell m k tree x e d in rw (ek, g.0, g.1, g.2) refl
 
   module _ {o o1 : List ℕ} {r : ℕ} (t : Typed o at (entry_texts m (take k (in_key_order m))) r o1)
       (room : at + length (entry_texts m (in_key_order m)) ≤ length o) where
-    more-fits : at + length (entry_texts m (take k (in_key_order m)) ++ entry_line key f) ≤ length o
+    more-fits : at + length (entry_texts m (take k (in_key_order m)) ++ entry_line key entry.frame) ≤ length o
     more-fits =
         let s = texts-some m (in_key_order m) (k + 1) in
         let g = ap length (texts-more m (in_key_order m) k (kth-there m k tree x e d)) in
         rw text-is (omega arith)
 
-    pub entry-room : length o1 ≡ length o → r + length (entry_line key f) ≤ length o1
+    pub entry-room : length o1 ≡ length o → r + length (entry_line key entry.frame) ≤ length o1
     entry-room s =
-        omega (arith, more-fits, length-append (entry_texts m (take k (in_key_order m))) (entry_line key f), t.place_is)
+        omega (arith, more-fits, length-append (entry_texts m (take k (in_key_order m))) (entry_line key entry.frame), t.place_is)
 
-    pub entry-again : {r1 : ℕ} {o2 : List ℕ} → Typed o1 r (entry_line key f) r1 o2
+    pub entry-again : {r1 : ℕ} {o2 : List ℕ} → Typed o1 r (entry_line key entry.frame) r1 o2
         → Typed o at (entry_texts m (take (k + 1) (in_key_order m))) r1 o2
     entry-again u =
-        rw (texts-more m (in_key_order m) k (kth-there m k tree x e d), ← text-is) (typed_then _ (entry_line key f) more-fits t u)
+        rw (texts-more m (in_key_order m) k (kth-there m k tree x e d), ← text-is) (typed_then _ (entry_line key entry.frame) more-fits t u)
 
 module _ {o : List ℕ} {at : ℕ} (m : Memory) where
   pub entries_none : Typed o at (entry_texts m (take 0 (in_key_order m))) at o
@@ -129,8 +127,8 @@ module _ {o : List ℕ} {at : ℕ} (m : Memory) where
   entries-done {k} e h t = rw (take_all k (in_key_order m) (omega arith)) at t
 
   -- a tree has the k-th entry for every k below their number
-  pub entries-cut : {k n r : ℕ} {o1 : List ℕ} {x : Listed} {why : Refusal} → is_tree m ≡ true → said_listed x ≡ kth_said m k
-      → x ≡ listed-is.Refused why
+  pub entries-cut : {k n r : ℕ} {o1 : List ℕ} {x : Result Listed Refusal} {why : Refusal} → is_tree m ≡ true → said_listed x ≡ kth_said m k
+      → x ≡ Err why
       → n ≡ length (in_key_order m) → k < n → Typed o at (entry_texts m (in_key_order m)) r o1
   entries-cut {k} {x = x} tree e d h l = absurd (omega (arith, kth-gone m k tree x e d))
 

@@ -11,7 +11,6 @@ ghost use Rattle.page.specs.Shown.{refused_line};
 ghost use Rattle.lines_said.specs.Said.{listed, entry_texts};
 ghost use Rattle.lines_list.specs.Room.{Room};
 
-use index_questions::Listed;
 use memory_layout::CELL_BYTES;
 use refusal::Refusal;
 
@@ -57,21 +56,13 @@ fn entries(nodes: &[u64], cells: &[u64], bytes: &[u8], n: u64, out: &mut [u8], a
         (in_key_order (memory nodes.now cells.now bytes.now))) result out.new }
 {
     let mut next = at;
-    let mut k: u64 = 0;
     // The lines of the first k entries are printed, up to the place `next`.
-    while k < n {
-        let answer = index_questions::kth(nodes, cells, bytes, k);
-        if let Listed::Entry {
-            cell,
-            length,
-            frame,
-        } = answer
-        {
-            next = page::inside::entry(out, next, key_in(bytes, cell, length), frame);
-            k += 1;
-            continue;
-        }
-        return next;
+    for k in 0..n {
+        let Ok(entry) = index_questions::kth(nodes, cells, bytes, k) else {
+            return next;
+        };
+        let key = key_in(bytes, entry.cell, entry.length);
+        next = page::inside::entry(out, next, key, entry.frame);
     }
     next
 }

@@ -1,6 +1,7 @@
 -- A bank in a word: its slots by masks and shifts, and the rule of a valid word. Assumes nothing.
 use mathlib.Core.Path.{◌≡◌, refl, sym, ap, ap₂, ◌∙◌, subst}
 use mathlib.Core.Bool.{Bool, true, false, ◌&&◌}
+use mathlib.Core.Logic.{◌⊎◌, inl, inr}
 use mathlib.Core.List.{List, ◌++◌}
 use Prim.Native.Nat.{ℕ, zero, suc, ◌+◌, ◌-◌, ◌*◌, ◌/◌, ◌%◌, ◌^◌, ◌≤◌, ◌<◌}
 use native.Mathlib.Nat.{mod-lt, mod-eq_of_lt, add-zero, zero-mul, zero-add, div-eq_of_lt, div-div-eq-div-mul, mul_comm}
@@ -15,8 +16,9 @@ use borrow.Author.Tests.{eq-eqb, le-leb, lt-leb, lt-ltb, le-ltb}
 use Rattle.bank.specs.Lists.{each_once, up}
 use Rattle.bank.specs.Bank.{valid}
 use Rattle.bank.proofs.Sorted.{drop-up, once-filled}
+use Rattle.bank.proofs.Judged.{judging}
 use Rattle.nibbles.specs.Nibbles.{nibbles}
-use Rattle.nibbles.specs.Words.{bank_of, valid_word, cleared_word}
+use Rattle.nibbles.specs.Words.{bank_of, valid_word, cleared_word, good_width}
 use Rattle.nibbles.proofs.Nibbles.{pow_step, length-nibbles, get_d-nibbles, drop-nibbles, nibbles-join, nibbles-low}
 
 -- ---- reading a word
@@ -202,4 +204,16 @@ module _ (w word : ℕ) {size : ℕ} (s : size ≡ word % 16) where
           ∙ ap₂ ◌++◌ (nibbles-low w (word / 16)) (filled w (omega arith))
           ∙ ap (λ (n : ℕ). nibbles w (word / 16) ++ up n (16 - w)) (sym (length-nibbles w (word / 16)))
 
+-- ---- the rule of a width, and the judgement
+
+module _ (w : ℕ) where
+  pub wrong_width : (w < 1) ⊎ ((1 ≤ w) × (15 < w)) → good_width w ≡ false
+  wrong_width (inl h) = rw (lt-leb 1 w h)
+  wrong_width (inr h) = rw (le-leb 1 w h.0, lt-leb w 15 h.1)
+
+  pub wide_enough : 1 ≤ w → w ≤ 15 → good_width w ≡ true
+  wide_enough h l = rw (le-leb 1 w h, le-leb w 15 l)
+
 pub ruleset validity = (rules, highest, valid-size, valid-once)
+
+pub ruleset judges = (rules, judging, wrong_width, wide_enough)

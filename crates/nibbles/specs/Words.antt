@@ -1,7 +1,7 @@
 -- Slot words: a bank of width 1 to 15 in a u64.
-use Rattle.std.specs.Prelude.{ℕ, ◌+◌, ◌*◌, ◌/◌, ◌%◌, ◌^◌, Bool, cond, ◌&&◌, [], ◌∷◌, get_or, ltb, leb, eqb}
+use Rattle.std.specs.Prelude.{ℕ, ◌+◌, ◌*◌, ◌/◌, ◌%◌, ◌^◌, Bool, cond, ◌&&◌, [], ◌∷◌, get_or, ltb, leb, eqb, Result}
+use Rattle.refusal.specs.declared.Refusal.{Refusal}
 use Rattle.bank.specs.Bank.{Bank, valid}
-use Rattle.bank.specs.declared.Verdict.{Verdict}
 use Rattle.bank.specs.Holder.{Holder}
 use Rattle.bank.specs.Judged.{judged_in}
 use Rattle.nibbles.specs.Nibbles.{pack, nibbles}
@@ -42,5 +42,5 @@ words w =
     }
 
 -- the judgement of a word: 1 unless the width is 1 to 15, 2 unless the cleared word is valid
-abbrev pub judged : ℕ → ℕ → Verdict
+abbrev pub judged : ℕ → ℕ → Result (Unit {0}) Refusal
 judged w word = judged_in (words w) word

@@ -5,7 +5,6 @@ ghost use Rattle.bank.specs.Lists.{each_once};
 ghost use Rattle.nibbles.specs.Nibbles.{nibbles};
 ghost use Rattle.nibbles.specs.Words.{valid_word, cleared_word, judged};
 
-use bank::Verdict;
 use refusal::Refusal;
 
 // Nibble i is i.
@@ -96,17 +95,14 @@ pub fn valid(word: u64, width: usize) -> bool
 }
 
 // Whether a word may be used at its width: refusal 1 for the width, 2 for the word.
-pub fn judge(word: u64, width: usize) -> Verdict
+pub fn judge(word: u64, width: usize) -> Result<(), Refusal>
     ensures { result ≡ judged width word }
 {
-    if width < 1 {
-        return Verdict::No(Refusal::Width);
-    }
-    if 15 < width {
-        return Verdict::No(Refusal::Width);
+    if width < 1 || 15 < width {
+        return Err(Refusal::Width);
     }
     if !valid(word, width) {
-        return Verdict::No(Refusal::Word);
+        return Err(Refusal::Word);
     }
-    Verdict::Fine
+    Ok(())
 }

@@ -6,15 +6,10 @@ use mathlib.Core.List.{List, [], ◌∷◌}
 use Rattle.refusal.specs.declared.Refusal.{Refusal}
 use Rattle.refusal.specs.Refusals.{number_of}
 use Rattle.refusal.specs.Answer.{Answer}
-use Rattle.ikey.specs.declared.Ordering.{Ordering}
+use Rattle.std.specs.declared.cmp.Ordering.{Ordering}
 use Rattle.ikey.specs.Said.{place, order_of}
 use Rattle.internode_places.specs.declared.Internode.{Internode}
-use Rattle.internode.specs.declared.Place.{Place}
-use Rattle.internode.specs.declared.Place.TheVariants as place_is
-use Rattle.internode.specs.declared.Child.{Child}
-use Rattle.internode.specs.declared.Child.TheVariants as child-is
-use Rattle.internode.specs.declared.Compared.{Compared}
-use Rattle.internode.specs.declared.Compared.TheVariants as compared_is
+use Rattle.std.specs.Prelude.{Result, Ok, Err}
 use Rattle.internode.specs.Answers.{said_place, said_child, said_compared}
 use Rattle.internode.specs.Calls.{find_said, compare_said, child_said, insert_said}
 use Rattle.crossing.specs.Crossing.{Crossed}
@@ -48,27 +43,27 @@ pub one-node-outcome : {a : Answer} {r r' : ℕ} {after after' : List ℕ} → C
     (r ≡ r') × (after ≡ after')
 one-node-outcome h h' = (h.number ∙ sym h'.number, h.lent ∙ sym h'.lent)
 
-module _ {answer : Place} where
-  pub place_at : {p before : ℕ} → answer ≡ place_is.At p → Crossed (said_place answer) 0 (before ∷ []) (p ∷ [])
+module _ {answer : Result ℕ Refusal} where
+  pub place_at : {p before : ℕ} → answer ≡ Ok p → Crossed (said_place answer) 0 (before ∷ []) (p ∷ [])
   place_at e = rw e (record { number = refl; lent = refl })
 
-  pub place-refused : {why : Refusal} {before r : ℕ} → answer ≡ place_is.Refused why → r ≡ number_of why →
+  pub place-refused : {why : Refusal} {before r : ℕ} → answer ≡ Err why → r ≡ number_of why →
       Crossed (said_place answer) r (before ∷ []) (before ∷ [])
   place-refused {why} {before} e n = rw e (refusal-crosses why [] (before ∷ []) n)
 
-module _ {answer : Child} where
-  pub child-number : {number before : ℕ} → answer ≡ child-is.Is number → Crossed (said_child answer) 0 (before ∷ []) (number ∷ [])
+module _ {answer : Result ℕ Refusal} where
+  pub child-number : {number before : ℕ} → answer ≡ Ok number → Crossed (said_child answer) 0 (before ∷ []) (number ∷ [])
   child-number e = rw e (record { number = refl; lent = refl })
 
-  pub child-refused : {why : Refusal} {before r : ℕ} → answer ≡ child-is.Refused why → r ≡ number_of why →
+  pub child-refused : {why : Refusal} {before r : ℕ} → answer ≡ Err why → r ≡ number_of why →
       Crossed (said_child answer) r (before ∷ []) (before ∷ [])
   child-refused {why} {before} e n = rw e (refusal-crosses why [] (before ∷ []) n)
 
-module _ {answer : Compared} where
-  pub order-told : {o : Ordering} {new before : ℕ} → answer ≡ compared_is.Is o → new ≡ place (order_of o) →
+module _ {answer : Result Ordering Refusal} where
+  pub order-told : {o : Ordering} {new before : ℕ} → answer ≡ Ok o → new ≡ place (order_of o) →
       Crossed (said_compared answer) 0 (before ∷ []) (new ∷ [])
   order-told e n = rw e (record { number = refl; lent = ap (λ (x : ℕ). x ∷ []) n })
 
-  pub order-refused : {why : Refusal} {before r : ℕ} → answer ≡ compared_is.Refused why → r ≡ number_of why →
+  pub order-refused : {why : Refusal} {before r : ℕ} → answer ≡ Err why → r ≡ number_of why →
       Crossed (said_compared answer) r (before ∷ []) (before ∷ [])
   order-refused {why} {before} e n = rw e (refusal-crosses why [] (before ∷ []) n)

@@ -2,12 +2,15 @@
 #![tactic(auto)]
 
 ghost use Rattle.std.specs.Prelude.{◌≡◌, [], ◌∷◌, ◌++◌};
+ghost use Rattle.internode.specs.Node.{numbers};
 ghost use Rattle.internode.specs.Answers.{said_place, said_child, said_compared, said_inserted};
 ghost use Rattle.crossing.specs.Crossing.{Crossed};
 ghost use Rattle.nodes_crossing.specs.Node.{lent_node, CrossedNode};
 
-use internode::{Child, Compared, Inserted, Internode, Place, Verdict};
+use internode::{Internode, Refused};
 use keys_crossing::order_number;
+use refusal::Refusal;
+use std::cmp::Ordering;
 
 // The internode of these numbers.
 pub fn take_node(n: usize, ikeys: &[u64; 15], children: &[u64; 16]) -> Internode
@@ -23,47 +26,58 @@ pub fn take_node(n: usize, ikeys: &[u64; 15], children: &[u64; 16]) -> Internode
 }
 
 // Writes a place and returns 0; refused, writes nothing and returns the number.
-pub fn give_place(answer: Place, position: &mut usize) -> u64
+pub fn give_place(answer: Result<usize, Refusal>, position: &mut usize) -> u64
     ensures { Crossed (said_place answer) result (position.old ∷ []) (position.new ∷ []) }
 {
     match answer {
-        Place::At(p) => {
+        Ok(p) => {
             *position = p;
             0
         }
-        Place::Refused(why) => refusal::number(why),
+        Err(why) => refusal::number(why),
     }
 }
 
 // Writes the number of a child and returns 0; refused, writes nothing and returns the number.
-pub fn give_child(answer: Child, child: &mut u64) -> u64
+pub fn give_child(answer: Result<u64, Refusal>, child: &mut u64) -> u64
     ensures { Crossed (said_child answer) result (child.old ∷ []) (child.new ∷ []) }
 {
     match answer {
-        Child::Is(number) => {
+        Ok(number) => {
             *child = number;
             0
         }
-        Child::Refused(why) => refusal::number(why),
+        Err(why) => refusal::number(why),
     }
 }
 
 // Writes how an ikey stands to another and returns 0; refused, writes nothing and returns the number.
-pub fn give_order(answer: Compared, order: &mut u64) -> u64
+pub fn give_order(answer: Result<Ordering, Refusal>, order: &mut u64) -> u64
     ensures { Crossed (said_compared answer) result (order.old ∷ []) (order.new ∷ []) }
 {
     match answer {
-        Compared::Is(is) => {
+        Ok(is) => {
             *order = order_number(is);
             0
         }
-        Compared::Refused(why) => refusal::number(why),
+        Err(why) => refusal::number(why),
     }
 }
 
-// Writes the node that comes back, which a refused insertion has left as it was, and returns the number of the verdict.
+// Writes all that a node holds.
+fn write_node(node: Internode, n: &mut usize, ikeys: &mut [u64; 15], children: &mut [u64; 16])
+    ensures { n.new ∷ (ikeys.new ++ children.new) ≡ numbers node }
+{
+    let new_ikeys = node.ikeys;
+    let new_children = node.children;
+    *n = node.n;
+    *ikeys = new_ikeys;
+    *children = new_children;
+}
+
+// Writes the node that comes back, which a refused insertion has left as it was, and returns 0 or the number of the refusal.
 pub fn give_node(
-    answer: Inserted,
+    answer: Result<Internode, Refused>,
     n: &mut usize,
     ikeys: &mut [u64; 15],
     children: &mut [u64; 16],
@@ -71,15 +85,14 @@ pub fn give_node(
     ensures { CrossedNode (said_inserted answer) result
         (n.new ∷ (ikeys.new ++ children.new)) }
 {
-    let node = answer.node;
-    let new_ikeys = node.ikeys;
-    let new_children = node.children;
-    *n = node.n;
-    *ikeys = new_ikeys;
-    *children = new_children;
-    let said = answer.said;
-    match said {
-        Verdict::Accepted => 0,
-        Verdict::Refused(why) => refusal::number(why),
+    match answer {
+        Ok(node) => {
+            write_node(node, n, ikeys, children);
+            0
+        }
+        Err(refused) => {
+            write_node(refused.node, n, ikeys, children);
+            refusal::number(refused.why)
+        }
     }
 }

@@ -23,7 +23,7 @@ pub fn append_byte(out: &mut [u8], at: usize, b: u8) -> usize
     at + 1
 }
 
-// Appends a number in decimal.
+// Appends a number in decimal. Not by `write!`: a writer over lent bytes would have to be made, and asked for the place behind.
 pub fn decimal(out: &mut [u8], at: usize, n: u64) -> usize
     requires { at + length (Shown·decimal n) ≤ length out.old }
     ensures { Typed out.old at (Shown·decimal n) result out.new }
@@ -49,13 +49,10 @@ fn hex(out: &mut [u8], at: usize, key: &[u8]) -> usize
     ensures { Typed out.old at (hex_of key.now) result out.new }
 {
     let mut next = at;
-    let mut i = 0;
-    // The digits of the first i bytes are written, up to the place `next`.
-    while i < key.len() {
-        let b = key[i];
-        next = append_byte(out, next, hex_digit(b / 16));
-        next = append_byte(out, next, hex_digit(b % 16));
-        i += 1;
+    // The digits of the bytes so far are written, up to the place `next`.
+    for b in key {
+        next = append_byte(out, next, hex_digit(*b / 16));
+        next = append_byte(out, next, hex_digit(*b % 16));
     }
     next
 }

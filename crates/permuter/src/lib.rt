@@ -3,7 +3,7 @@
 // All calls and their answers are passed on from the crates below; what they mean, the history of a word, is proved here.
 #![tactic(auto)]
 
-pub use slot_answers::{Changed, Inserted, Made, Told};
+pub use slot_answers::{HandedOut, Refused};
 pub use slot_places::{exchange, rotate, set_size, swap_free_slots};
 pub use slot_questions::{back, back_at_offset, get, size};
 pub use slots_insert::insert_from_back;

@@ -1,9 +1,6 @@
 // One recorded line: what to do to the memory, and what the audit says to it. 28 bytes: an operation, a slice, an index of eight hex
 // digits, a value of sixteen, the verdict and a line feed. tests/README.md says how the list was made.
-ghost use Rattle.std.specs.Prelude.{◌<◌};
-
 use crate::pace;
-use audit::Audited;
 use memory_layout::{CELL_BYTES, CELL_WORDS, HEADER_WORDS, NODE_WORDS};
 
 // How much of the memory is lent: words of nodes, words of cells, bytes.
@@ -21,10 +18,7 @@ pub(crate) fn operation(text: &[u8]) -> u8 {
 
 // The byte at i, or 0 past the end.
 fn at(text: &[u8], i: usize) -> u8 {
-    if i < text.len() {
-        return text[i];
-    }
-    0
+    text.get(i).copied().unwrap_or(0)
 }
 
 // The index of the word or byte that the line names.
@@ -59,46 +53,25 @@ pub(crate) fn lent(text: &[u8]) -> Lengths {
 
 // Whether the audit of what is lent says what the line has.
 pub(crate) fn agrees(nodes: &[u64], cells: &[u64], bytes: &[u8], l: Lengths, text: &[u8]) -> bool {
-    if nodes.len() < l.nodes {
+    if nodes.len() < l.nodes || cells.len() < l.cells || bytes.len() < l.bytes {
         return false;
     }
-    if cells.len() < l.cells {
-        return false;
-    }
-    if bytes.len() < l.bytes {
-        return false;
-    }
-    let n = l.nodes;
-    let c = l.cells;
-    let b = l.bytes;
-    let audited = audit::audit(&nodes[0..n], &cells[0..c], &bytes[0..b]);
-    at(text, 26) == shown(audited)
+    let audited = audit::audit(&nodes[..l.nodes], &cells[..l.cells], &bytes[..l.bytes]);
+    at(text, 26) == shown(audited.is_ok())
 }
 
 // What is measured, on what is lent.
 pub(crate) fn measured(nodes: &[u64], cells: &[u64], bytes: &[u8], l: Lengths, text: &[u8]) -> u64 {
-    if nodes.len() < l.nodes {
+    if nodes.len() < l.nodes || cells.len() < l.cells || bytes.len() < l.bytes {
         return 0;
     }
-    if cells.len() < l.cells {
-        return 0;
-    }
-    if bytes.len() < l.bytes {
-        return 0;
-    }
-    let n = l.nodes;
-    let c = l.cells;
-    let b = l.bytes;
-    let which = at(text, 1);
-    pace::measured(&nodes[0..n], &cells[0..c], &bytes[0..b], which, value(text))
+    let (nodes, cells, bytes) = (&nodes[..l.nodes], &cells[..l.cells], &bytes[..l.bytes]);
+    pace::measured(nodes, cells, bytes, at(text, 1), value(text))
 }
 
 // A verdict as the line has it: `1` for a tree, `0` for none.
-fn shown(audited: Audited) -> u8 {
-    match audited {
-        Audited::Tree => b'1',
-        Audited::Refused(_) => b'0',
-    }
+fn shown(tree: bool) -> u8 {
+    if tree { b'1' } else { b'0' }
 }
 
 // Changes the word or byte that the line names, and hands back what stood there.
@@ -139,24 +112,12 @@ fn put_word(words: &mut [u64], i: usize, value: u64) -> u64 {
     old
 }
 
-// The lowest eight bits.
-fn low_byte(value: u64) -> u8
-    ensures { result < 256 }
-{
-    (value % 256) as u8
-}
-
-// A byte as a number of 64 bits.
-fn wide(byte: u8) -> u64 {
-    byte as u64
-}
-
 // Writes one byte, and hands back what stood there; 0 where there is no such byte.
 fn put_byte(bytes: &mut [u8], i: usize, value: u64) -> u64 {
     if bytes.len() <= i {
         return 0;
     }
-    let old = wide(bytes[i]);
-    bytes[i] = low_byte(value);
+    let old = u64::from(bytes[i]);
+    bytes[i] = (value % 256) as u8;
     old
 }

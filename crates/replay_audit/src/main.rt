@@ -30,19 +30,17 @@ fn replay_all<R: Read, W: Write>(
     bytes: &mut [u8],
 ) -> io::Result<Tally> {
     let mut tally = tally::none();
-    let mut lines: u64 = 0;
     let mut lengths = Lengths {
         nodes: 0,
         cells: 0,
         bytes: 0,
     };
-    // `lines` lines are replayed, and `lengths` is what the last new memory has.
-    while lines < u64::MAX {
+    // `lengths` is what the last new memory has.
+    for _ in 0..u64::MAX {
         let mut text = [0u8; 28];
         if !tally::next(from, to, &mut text)? {
             break;
         }
-        lines += 1;
         if line::operation(&text) == b'm' {
             lengths = line::room_for(&text);
             wipe(nodes, cells, bytes);

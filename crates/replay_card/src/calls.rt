@@ -1,8 +1,8 @@
 // The recorded calls: each is made, and held to the line's number, to what it tells and to the sum of what is lent.
 use crate::line;
-use arena::Cleared;
 use card_image::{Loaded, Saved};
-use index::{Added, Removed};
+use index::PutRefused;
+use refusal::Refusal;
 
 // Whether the call says what the line has, and what is lent has the line's sum after it.
 pub(crate) fn agrees(
@@ -91,27 +91,27 @@ fn same(number: u64, told: u64, text: &[u8]) -> bool {
 }
 
 // Whether a clear says what the line has.
-fn cleared(answer: Cleared, text: &[u8]) -> bool {
+fn cleared(answer: Result<(), Refusal>, text: &[u8]) -> bool {
     match answer {
-        Cleared::Done => same(0, 0, text),
-        Cleared::Refused(why) => same(refusal::number(why), 0, text),
+        Ok(()) => same(0, 0, text),
+        Err(why) => same(refusal::number(why), 0, text),
     }
 }
 
 // Whether a put does; accepted also how many slots rest, of 14 how many nodes are lacking.
-fn put(answer: Added, text: &[u8]) -> bool {
+fn put(answer: Result<usize, PutRefused>, text: &[u8]) -> bool {
     match answer {
-        Added::Done { resting } => same(0, resting as u64, text),
-        Added::TooFewNodes(lacking) => same(14, lacking, text),
-        Added::Refused(why) => same(refusal::number(why), 0, text),
+        Ok(resting) => same(0, resting as u64, text),
+        Err(PutRefused::TooFewNodes(lacking)) => same(14, lacking, text),
+        Err(PutRefused::Refused(why)) => same(refusal::number(why), 0, text),
     }
 }
 
 // Whether a removal does.
-fn removed(answer: Removed, text: &[u8]) -> bool {
+fn removed(answer: Result<(), Refusal>, text: &[u8]) -> bool {
     match answer {
-        Removed::Done => same(0, 0, text),
-        Removed::Refused(why) => same(refusal::number(why), 0, text),
+        Ok(()) => same(0, 0, text),
+        Err(why) => same(refusal::number(why), 0, text),
     }
 }
 

@@ -2,9 +2,9 @@
 // the memory after it, the length of a key and the key. tests/calls.py makes such lines and says which is which.
 ghost use Rattle.std.specs.Prelude.{◌≤◌};
 
-use arena::Cleared;
-use index::{Added, Counted, Found, Listed, Removed};
+use index::{Listed, PutRefused};
 use memory_layout::CELL_BYTES;
+use refusal::Refusal;
 
 // Which call the line records, by its first byte; 0 where the line is empty.
 pub(crate) fn call(text: &[u8]) -> u8 {
@@ -45,19 +45,14 @@ fn length(text: &[u8]) -> usize
     ensures { result ≤ 257 }
 {
     let n = hex_digits::four(text, 51) as usize;
-    if 257 < n {
-        return 257;
-    }
-    n
+    n.min(257)
 }
 
 // The bytes of the key, filled up with zeros.
 fn key_of(text: &[u8]) -> [u8; 257] {
     let mut key = [0u8; 257];
-    let mut i: usize = 0;
-    while i < 257 {
-        key[i] = hex_digits::byte(text, 55 + 2 * i);
-        i += 1;
+    for (i, byte) in key.iter_mut().enumerate() {
+        *byte = hex_digits::byte(text, 55 + 2 * i);
     }
     key
 }
@@ -100,76 +95,65 @@ fn says(nodes: &mut [u64], cells: &mut [u64], bytes: &mut [u8], key: &[u8], text
 }
 
 // The number that a clear answers: 0, or that of its refusal.
-fn cleared_number(answer: Cleared) -> u64 {
+fn cleared_number(answer: Result<(), Refusal>) -> u64 {
     match answer {
-        Cleared::Done => 0,
-        Cleared::Refused(why) => refusal::number(why),
+        Ok(()) => 0,
+        Err(why) => refusal::number(why),
     }
 }
 
 // Whether a put says what the line has; accepted also how many slots rest, of 14 how many nodes are lacking.
-fn put(answer: Added, text: &[u8]) -> bool {
+fn put(answer: Result<usize, PutRefused>, text: &[u8]) -> bool {
     match answer {
-        Added::Done { resting } => number(text) == 0 && resting as u64 == other(text),
-        Added::TooFewNodes(lacking) => number(text) == 14 && lacking == other(text),
-        Added::Refused(why) => refusal::number(why) == number(text),
+        Ok(resting) => number(text) == 0 && resting as u64 == other(text),
+        Err(PutRefused::TooFewNodes(lacking)) => number(text) == 14 && lacking == other(text),
+        Err(PutRefused::Refused(why)) => refusal::number(why) == number(text),
     }
 }
 
 // The number that a removal answers: 0, or that of its refusal.
-fn removed_number(answer: Removed) -> u64 {
+fn removed_number(answer: Result<(), Refusal>) -> u64 {
     match answer {
-        Removed::Done => 0,
-        Removed::Refused(why) => refusal::number(why),
+        Ok(()) => 0,
+        Err(why) => refusal::number(why),
     }
 }
 
 // Whether a count says what the line has.
-fn counted(answer: Counted, text: &[u8]) -> bool {
+fn counted(answer: Result<u64, Refusal>, text: &[u8]) -> bool {
     match answer {
-        Counted::Entries(n) => number(text) == 0 && n == other(text),
-        Counted::Refused(why) => refusal::number(why) == number(text),
+        Ok(n) => number(text) == 0 && n == other(text),
+        Err(why) => refusal::number(why) == number(text),
     }
 }
 
 // Whether a find says what the line has.
-fn found(answer: Found, text: &[u8]) -> bool {
+fn found(answer: Result<u64, Refusal>, text: &[u8]) -> bool {
     match answer {
-        Found::Frame(x) => number(text) == 0 && x == frame(text),
-        Found::Refused(why) => refusal::number(why) == number(text),
+        Ok(x) => number(text) == 0 && x == frame(text),
+        Err(why) => refusal::number(why) == number(text),
     }
 }
 
 // Whether k-th says what the line has, and the key stands in the cell that it tells.
-fn reached(bytes: &[u8], answer: Listed, key: &[u8], text: &[u8]) -> bool {
+fn reached(bytes: &[u8], answer: Result<Listed, Refusal>, key: &[u8], text: &[u8]) -> bool {
     match answer {
-        Listed::Entry {
-            cell,
-            length,
-            frame: x,
-        } => number(text) == 0 && x == frame(text) && stands(bytes, cell, length, key),
-        Listed::Refused(why) => refusal::number(why) == number(text),
+        Ok(entry) => {
+            number(text) == 0
+                && entry.frame == frame(text)
+                && stands(bytes, entry.cell, entry.length, key)
+        }
+        Err(why) => refusal::number(why) == number(text),
     }
 }
 
 // Whether the key stands in a cell, and has this length.
 fn stands(bytes: &[u8], cell: u64, length: u64, key: &[u8]) -> bool {
-    if length != key.len() as u64 {
+    if length != key.len() as u64 || 255 <= cell {
         return false;
     }
-    if 255 <= cell {
-        return false;
+    match bytes.get(cell as usize * CELL_BYTES..) {
+        Some(rest) => rest.starts_with(key),
+        None => false,
     }
-    let from = cell as usize * CELL_BYTES;
-    let mut i: usize = 0;
-    while i < key.len() {
-        if bytes.len() <= from + i {
-            return false;
-        }
-        if bytes[from + i] != key[i] {
-            return false;
-        }
-        i += 1;
-    }
-    true
 }

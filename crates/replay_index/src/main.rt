@@ -32,7 +32,7 @@ fn replay_all<R: Read, W: Write>(
     let mut n: usize = 0;
     let mut c: usize = 0;
     // The last new memory has n nodes and c cells, and every line so far is counted.
-    while tally.answers < u64::MAX {
+    for _ in 0..u64::MAX {
         let mut text = [0u8; 570];
         if !tally::next(from, to, &mut text)? {
             break;
@@ -66,22 +66,13 @@ fn replay_call(
     c: usize,
     text: &[u8],
 ) -> bool {
-    if 256 < n {
-        return false;
-    }
-    if 256 < c {
+    if 256 < n || 256 < c {
         return false;
     }
     let a = HEADER_WORDS + n * NODE_WORDS;
     let b = c * CELL_WORDS;
     let d = c * CELL_BYTES;
-    if nodes.len() < a {
-        return false;
-    }
-    if cells.len() < b {
-        return false;
-    }
-    if bytes.len() < d {
+    if nodes.len() < a || cells.len() < b || bytes.len() < d {
         return false;
     }
     line::agrees(&mut nodes[0..a], &mut cells[0..b], &mut bytes[0..d], text)

@@ -1,7 +1,7 @@
 // Each call on a key, and its answer as a number and three values.
-use ikey::{Ordering, Whole};
-use key::{Compared, Count, Judged, Layer, Made, Moved, Told, Word};
+use key::{Layer, Refused};
 use refusal::Refusal;
+use std::cmp::Ordering;
 
 // What a call said: 0 or the number of a refusal, and three values, 0 where there is none.
 #[derive(Clone, Copy)]
@@ -33,12 +33,13 @@ fn layer(k: Layer) -> Said {
 }
 
 // A refusal with the numbers that are handed back.
-fn refused(why: Refusal, k: Layer) -> Said {
+fn refused(r: Refused) -> Said {
+    let k = layer(r.layer);
     Said {
-        number: refusal::number(why),
-        a: k.ikey,
-        b: k.shift_count as u64,
-        c: k.suffix_start as u64,
+        number: refusal::number(r.why),
+        a: k.a,
+        b: k.b,
+        c: k.c,
     }
 }
 
@@ -62,71 +63,66 @@ fn order(o: Ordering) -> u64 {
 }
 
 // What `new` says.
-fn made(r: Made) -> Said {
+fn made(r: Result<Layer, Refusal>) -> Said {
     match r {
-        Made::At(k) => layer(k),
-        Made::Refused(why) => nothing(why),
+        Ok(k) => layer(k),
+        Err(why) => nothing(why),
     }
 }
 
 // What a shift or an unshift says.
-fn moved(r: Moved) -> Said {
+fn moved(r: Result<Layer, Refused>) -> Said {
     match r {
-        Moved::At(k) => layer(k),
-        Moved::Refused(why, k) => refused(why, k),
+        Ok(k) => layer(k),
+        Err(r) => refused(r),
     }
 }
 
 // What a call says that tells a length, a count or an offset.
-pub(crate) fn count(r: Count) -> Said {
+pub(crate) fn count(r: Result<usize, Refused>) -> Said {
     match r {
-        Count::Is(n) => value(n as u64),
-        Count::Refused(why, k) => refused(why, k),
+        Ok(n) => value(n as u64),
+        Err(r) => refused(r),
     }
 }
 
 // What a call says that tells an ikey.
-pub(crate) fn word(r: Word) -> Said {
+pub(crate) fn word(r: Result<u64, Refused>) -> Said {
     match r {
-        Word::Is(w) => value(w),
-        Word::Refused(why, k) => refused(why, k),
+        Ok(w) => value(w),
+        Err(r) => refused(r),
     }
 }
 
-// 1 for yes, 0 for no.
-fn flag(b: bool) -> u64 {
-    if b { 1 } else { 0 }
-}
-
-// What a call says that tells whether something is so.
-pub(crate) fn told(r: Told) -> Said {
+// What a call says that tells whether something is so: 1 for yes, 0 for no.
+pub(crate) fn told(r: Result<bool, Refused>) -> Said {
     match r {
-        Told::Is(b) => value(flag(b)),
-        Told::Refused(why, k) => refused(why, k),
+        Ok(b) => value(u64::from(b)),
+        Err(r) => refused(r),
     }
 }
 
 // What a comparison says.
-pub(crate) fn compared(r: Compared) -> Said {
+pub(crate) fn compared(r: Result<Ordering, Refused>) -> Said {
     match r {
-        Compared::Is(o) => value(order(o)),
-        Compared::Refused(why, k) => refused(why, k),
+        Ok(o) => value(order(o)),
+        Err(r) => refused(r),
     }
 }
 
 // What the comparison of two whole keys says.
-fn whole(r: Whole) -> Said {
+fn whole(r: Result<Ordering, Refusal>) -> Said {
     match r {
-        Whole::Is(o) => value(order(o)),
-        Whole::Refused(why) => nothing(why),
+        Ok(o) => value(order(o)),
+        Err(why) => nothing(why),
     }
 }
 
 // What the judgement of a key says.
-pub(crate) fn judged(r: Judged) -> Said {
+pub(crate) fn judged(r: Result<(), Refused>) -> Said {
     match r {
-        Judged::Fits => value(0),
-        Judged::Refused(why, k) => refused(why, k),
+        Ok(()) => value(0),
+        Err(r) => refused(r),
     }
 }
 
@@ -153,18 +149,11 @@ pub(crate) fn part(number: u64, s: &[u8]) -> Said {
     }
 }
 
-// A byte as a number of 64 bits.
-fn wide(x: u8) -> u64 {
-    x as u64
-}
-
 // A sum over bytes and their order, as the record has it.
 fn sum(s: &[u8]) -> u64 {
     let mut x: u64 = 1;
-    let mut i: usize = 0;
-    while i < s.len() {
-        x = mix(x, wide(s[i]));
-        i += 1;
+    for b in s {
+        x = mix(x, u64::from(*b));
     }
     x
 }
@@ -185,11 +174,10 @@ fn none() -> Layer {
 
 // The key of a at a layer. A key that is too long has no numbers: zeros.
 pub(crate) fn reach(a: &[u8], layer: u8) -> Layer {
-    let Made::At(k) = key::new(a) else {
+    let Ok(k) = key::new(a) else {
         return none();
     };
-    let Moved::At(l) = key::shift_by(a, k.ikey, k.shift_count, k.suffix_start, layer as usize * 8)
-    else {
+    let Ok(l) = key::shift_by(a, k.ikey, k.shift_count, k.suffix_start, layer as usize * 8) else {
         return none();
     };
     l

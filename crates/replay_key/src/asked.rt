@@ -53,10 +53,7 @@ fn parts(op: u8, a: &[u8], i: u64, s: usize, p: usize) -> Said {
 
 // Whether a call makes a key or takes one.
 pub(crate) fn is_held(op: u8) -> bool {
-    if op < 1 {
-        return false;
-    }
-    op < 19
+    matches!(op, 1..=18)
 }
 
 // Its answer, of a key that holds these bytes.

@@ -9,10 +9,16 @@ ghost use Rattle.key.specs.Parts.{suffix_said, data_said};
 ghost use Rattle.held_key.specs.Held.{numbers_in, numbers_held};
 
 use held_key::{Key, Keyed, Numbers};
-use key::{Compared, Count, Judged, Part, Told, Word};
+use key::{Part, Refused};
+use std::cmp::Ordering;
 
 // The length of the whole key.
-pub fn len(bytes: &[u8], ikey: u64, shift_count: usize, suffix_start: usize) -> Count
+pub fn len(
+    bytes: &[u8],
+    ikey: u64,
+    shift_count: usize,
+    suffix_start: usize,
+) -> Result<usize, Refused>
     ensures { said_count result ≡ answer_to Len bytes.now ikey shift_count suffix_start }
 {
     held_key::len(Key {
@@ -24,7 +30,12 @@ pub fn len(bytes: &[u8], ikey: u64, shift_count: usize, suffix_start: usize) -> 
 }
 
 // The ikey at the key's layer.
-pub fn ikey(bytes: &[u8], ikey: u64, shift_count: usize, suffix_start: usize) -> Word
+pub fn ikey(
+    bytes: &[u8],
+    ikey: u64,
+    shift_count: usize,
+    suffix_start: usize,
+) -> Result<u64, Refused>
     ensures { said_word result ≡ answer_to Ikey bytes.now ikey shift_count suffix_start }
 {
     held_key::ikey(Key {
@@ -36,7 +47,12 @@ pub fn ikey(bytes: &[u8], ikey: u64, shift_count: usize, suffix_start: usize) ->
 }
 
 // How often the key was shifted.
-pub fn shift_count(bytes: &[u8], ikey: u64, shift_count: usize, suffix_start: usize) -> Count
+pub fn shift_count(
+    bytes: &[u8],
+    ikey: u64,
+    shift_count: usize,
+    suffix_start: usize,
+) -> Result<usize, Refused>
     ensures { said_count result ≡ answer_to ShiftCount bytes.now ikey shift_count suffix_start }
 {
     held_key::shift_count(Key {
@@ -48,7 +64,12 @@ pub fn shift_count(bytes: &[u8], ikey: u64, shift_count: usize, suffix_start: us
 }
 
 // Where the suffix starts, in the whole key.
-pub fn suffix_start(bytes: &[u8], ikey: u64, shift_count: usize, suffix_start: usize) -> Count
+pub fn suffix_start(
+    bytes: &[u8],
+    ikey: u64,
+    shift_count: usize,
+    suffix_start: usize,
+) -> Result<usize, Refused>
     ensures { said_count result ≡ answer_to SuffixStart bytes.now ikey shift_count suffix_start }
 {
     held_key::suffix_start(Key {
@@ -60,7 +81,12 @@ pub fn suffix_start(bytes: &[u8], ikey: u64, shift_count: usize, suffix_start: u
 }
 
 // The length from the key's layer on.
-pub fn current_len(bytes: &[u8], ikey: u64, shift_count: usize, suffix_start: usize) -> Count
+pub fn current_len(
+    bytes: &[u8],
+    ikey: u64,
+    shift_count: usize,
+    suffix_start: usize,
+) -> Result<usize, Refused>
     ensures { said_count result ≡ answer_to CurrentLen bytes.now ikey shift_count suffix_start }
 {
     held_key::current_len(Key {
@@ -72,7 +98,12 @@ pub fn current_len(bytes: &[u8], ikey: u64, shift_count: usize, suffix_start: us
 }
 
 // The length of the suffix.
-pub fn suffix_len(bytes: &[u8], ikey: u64, shift_count: usize, suffix_start: usize) -> Count
+pub fn suffix_len(
+    bytes: &[u8],
+    ikey: u64,
+    shift_count: usize,
+    suffix_start: usize,
+) -> Result<usize, Refused>
     ensures { said_count result ≡ answer_to SuffixLen bytes.now ikey shift_count suffix_start }
 {
     held_key::suffix_len(Key {
@@ -84,7 +115,12 @@ pub fn suffix_len(bytes: &[u8], ikey: u64, shift_count: usize, suffix_start: usi
 }
 
 // Whether the key has no byte at all.
-pub fn is_empty(bytes: &[u8], ikey: u64, shift_count: usize, suffix_start: usize) -> Told
+pub fn is_empty(
+    bytes: &[u8],
+    ikey: u64,
+    shift_count: usize,
+    suffix_start: usize,
+) -> Result<bool, Refused>
     ensures { said_told result ≡ answer_to IsEmpty bytes.now ikey shift_count suffix_start }
 {
     held_key::is_empty(Key {
@@ -96,7 +132,12 @@ pub fn is_empty(bytes: &[u8], ikey: u64, shift_count: usize, suffix_start: usize
 }
 
 // Whether the key was shifted.
-pub fn is_shifted(bytes: &[u8], ikey: u64, shift_count: usize, suffix_start: usize) -> Told
+pub fn is_shifted(
+    bytes: &[u8],
+    ikey: u64,
+    shift_count: usize,
+    suffix_start: usize,
+) -> Result<bool, Refused>
     ensures { said_told result ≡ answer_to IsShifted bytes.now ikey shift_count suffix_start }
 {
     held_key::is_shifted(Key {
@@ -108,7 +149,12 @@ pub fn is_shifted(bytes: &[u8], ikey: u64, shift_count: usize, suffix_start: usi
 }
 
 // Whether more than eight bytes are left at the key's layer.
-pub fn has_suffix(bytes: &[u8], ikey: u64, shift_count: usize, suffix_start: usize) -> Told
+pub fn has_suffix(
+    bytes: &[u8],
+    ikey: u64,
+    shift_count: usize,
+    suffix_start: usize,
+) -> Result<bool, Refused>
     ensures { said_told result ≡ answer_to HasSuffix bytes.now ikey shift_count suffix_start }
 {
     held_key::has_suffix(Key {
@@ -120,7 +166,12 @@ pub fn has_suffix(bytes: &[u8], ikey: u64, shift_count: usize, suffix_start: usi
 }
 
 // Whether the numbers fit the bytes.
-pub fn judge(bytes: &[u8], ikey: u64, shift_count: usize, suffix_start: usize) -> Judged
+pub fn judge(
+    bytes: &[u8],
+    ikey: u64,
+    shift_count: usize,
+    suffix_start: usize,
+) -> Result<(), Refused>
     ensures { said_judged result ≡ answer_to Judge bytes.now ikey shift_count suffix_start }
 {
     held_key::judge(Key {
@@ -282,7 +333,7 @@ pub fn compare(
     suffix_start: usize,
     other_ikey: u64,
     keylenx: usize,
-) -> Compared
+) -> Result<Ordering, Refused>
     ensures { said_compared result ≡ answer_to (Compare other_ikey keylenx) bytes.now ikey shift_count suffix_start }
 {
     held_key::compare(
@@ -304,7 +355,7 @@ pub fn compare_suffix(
     shift_count: usize,
     suffix_start: usize,
     other: &[u8],
-) -> Compared
+) -> Result<Ordering, Refused>
     ensures { said_compared result ≡ answer_to (CompareSuffix other.now) bytes.now ikey shift_count
         suffix_start }
 {

@@ -7,17 +7,14 @@ use crate::asked;
 
 // The byte at i, or 0 past the end.
 fn byte(s: &[u8], i: usize) -> u8 {
-    if i < s.len() {
-        return s[i];
-    }
-    0
+    s.get(i).copied().unwrap_or(0)
 }
 
 // A byte as a number of 64 bits.
 fn wide(x: u8) -> u64
     ensures { result < 256 }
 {
-    x as u64
+    u64::from(x)
 }
 
 // Two bytes from i on, the first one highest.
@@ -80,12 +77,10 @@ fn build(rec: &[u8], from: usize, out: &mut [u8]) -> usize
     let kind = byte(rec, from + 2);
     let seed = byte(rec, from + 3);
     let mut x = wide(seed);
-    let mut i: usize = 0;
-    // The first i bytes are written, and x is the number that the last one came from.
-    while i < n {
+    // The bytes before this place are written, and x is the number that the last one came from.
+    for place in &mut out[..n] {
         x = stir(x);
-        put(out, i, choose(kind, seed, x));
-        i += 1;
+        *place = choose(kind, seed, x);
     }
     let at = two(rec, from + 4) as usize;
     if at < n {
@@ -108,10 +103,8 @@ fn agrees_on(rec: &[u8], a: &[u8], b: &[u8]) -> bool {
         return true;
     }
     let k = reach(a, layer);
-    if op < 11 {
-        if asked::judgement(a, k) != wide(byte(rec, 32)) {
-            return false;
-        }
+    if op < 11 && asked::judgement(a, k) != wide(byte(rec, 32)) {
+        return false;
     }
     same(rec, asked::answer(op, a, b, k, x, y))
 }
@@ -127,14 +120,8 @@ pub(crate) fn agrees(rec: &[u8]) -> bool {
 
 // Whether the record has this answer.
 fn same(rec: &[u8], said: Said) -> bool {
-    if said.number != wide(byte(rec, 32)) {
-        return false;
-    }
-    if said.a != eight(rec, 40) {
-        return false;
-    }
-    if said.b != eight(rec, 48) {
-        return false;
-    }
-    said.c == eight(rec, 56)
+    said.number == wide(byte(rec, 32))
+        && said.a == eight(rec, 40)
+        && said.b == eight(rec, 48)
+        && said.c == eight(rec, 56)
 }

@@ -1,83 +1,73 @@
 // One recorded answer: 65 bytes with the line feed, its fields in lower-case hex at fixed places. tests/editions.py says which.
 ghost use Rattle.std.specs.Prelude.{◌≤◌, length};
 
-use label_read::{FirstLabel, Label};
+use label_read::{FirstLabel, Label, Unknown};
 
-// What a reader said: 0, the edition and the fields; or 19 and the edition byte. What it did not say is 0.
-#[derive(Clone, Copy)]
-struct Said {
-    number: u64,
+// The edition and the fields that a line has; what it does not have is 0.
+#[derive(Clone, Copy, PartialEq)]
+struct Fields {
     edition: u64,
     station: u64,
     burst: u64,
     frame: u64,
 }
 
-// No label, by its edition byte.
-fn unknown(byte: u8) -> Said {
-    Said {
-        number: 19,
-        edition: byte as u64,
-        station: 0,
-        burst: 0,
-        frame: 0,
+impl From<Label> for Fields {
+    fn from(label: Label) -> Fields {
+        match label {
+            Label::First {
+                station,
+                burst,
+                frame,
+            } => Fields {
+                edition: 1,
+                station: u64::from(station),
+                burst: u64::from(burst),
+                frame: u64::from(frame),
+            },
+            Label::Second {
+                station,
+                burst,
+                frame,
+            } => Fields {
+                edition: 2,
+                station: u64::from(station),
+                burst: u64::from(burst),
+                frame: u64::from(frame),
+            },
+        }
     }
 }
 
-// What a reader of both editions said.
-fn of_label(answer: Label) -> Said {
-    match answer {
-        Label::First {
-            station,
-            burst,
-            frame,
-        } => Said {
-            number: 0,
-            edition: 1,
-            station: station as u64,
-            burst: burst as u64,
-            frame: frame as u64,
-        },
-        Label::Second {
-            station,
-            burst,
-            frame,
-        } => Said {
-            number: 0,
-            edition: 2,
-            station: station as u64,
-            burst: burst as u64,
-            frame: frame as u64,
-        },
-        Label::Unknown(byte) => unknown(byte),
-    }
-}
-
-// What a reader of edition 1 said.
-fn of_first(answer: FirstLabel) -> Said {
-    match answer {
-        FirstLabel::Fields {
-            station,
-            burst,
-            frame,
-        } => Said {
-            number: 0,
+// A reader of edition 1 tells no edition.
+impl From<FirstLabel> for Fields {
+    fn from(label: FirstLabel) -> Fields {
+        Fields {
             edition: 0,
-            station: station as u64,
-            burst: burst as u64,
-            frame: frame as u64,
-        },
-        FirstLabel::Unknown(byte) => unknown(byte),
+            station: u64::from(label.station),
+            burst: u64::from(label.burst),
+            frame: u64::from(label.frame),
+        }
+    }
+}
+
+// No label has its edition byte alone.
+impl From<Unknown> for Fields {
+    fn from(unknown: Unknown) -> Fields {
+        Fields {
+            edition: u64::from(unknown.edition),
+            station: 0,
+            burst: 0,
+            frame: 0,
+        }
     }
 }
 
 // The label of the line, of which the line has the first 16 bytes; those behind are 0.
 fn label_of(text: &[u8]) -> [u8; 300] {
     let mut label = [0u8; 300];
-    let mut i: usize = 0;
-    while i < 16 {
+    for i in 0..16 {
         label[i] = hex_digits::byte(text, 32 + 2 * i);
-        i += 1;
     }
     label
 }
@@ -86,43 +76,30 @@ fn label_of(text: &[u8]) -> [u8; 300] {
 fn built(text: &[u8], label: &[u8]) -> bool
     requires { length label.now ≤ 16 }
 {
-    if hex_digits::four(text, 27) != label.len() as u64 {
-        return false;
-    }
-    let mut i: usize = 0;
-    // The first i bytes agree.
-    while i < label.len() {
-        if label[i] != hex_digits::byte(text, 32 + 2 * i) {
-            return false;
-        }
-        i += 1;
-    }
-    true
+    hex_digits::four(text, 27) == label.len() as u64
+        && (0..label.len()).all(|i| label[i] == hex_digits::byte(text, 32 + 2 * i))
 }
 
-// Whether a reader said what the line says.
-fn is_recorded(text: &[u8], said: Said) -> bool {
-    if said.number != hex_digits::two(text, 2) {
-        return false;
+// Whether a reader said what the line says: 0 and the fields, or 19 and the edition byte.
+fn is_recorded(text: &[u8], said: Result<Fields, Unknown>) -> bool {
+    let recorded = Fields {
+        edition: hex_digits::two(text, 5),
+        station: hex_digits::four(text, 8),
+        burst: hex_digits::eight(text, 13),
+        frame: hex_digits::four(text, 22),
+    };
+    match said {
+        Ok(fields) => hex_digits::two(text, 2) == 0 && recorded == fields,
+        Err(unknown) => hex_digits::two(text, 2) == 19 && recorded == Fields::from(unknown),
     }
-    if said.edition != hex_digits::two(text, 5) {
-        return false;
-    }
-    if said.station != hex_digits::four(text, 8) {
-        return false;
-    }
-    if said.burst != hex_digits::eight(text, 13) {
-        return false;
-    }
-    said.frame == hex_digits::four(text, 22)
 }
 
 // Whether the call of this code reads a label as the line says: 2 with a reader of both editions, any other with one of edition 1.
 fn reads(text: &[u8], label: &[u8], call: u64) -> bool {
     if call == 2 {
-        return is_recorded(text, of_label(label_read::read(label)));
+        return is_recorded(text, label_read::read(label).map(Fields::from));
     }
-    is_recorded(text, of_first(label_read::read_first(label)))
+    is_recorded(text, label_read::read_first(label).map(Fields::from))
 }
 
 // The same, with as many bytes of it as the line says.

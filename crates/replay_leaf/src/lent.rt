@@ -2,7 +2,7 @@
 ghost use Rattle.std.specs.Prelude.{◌≡◌};
 ghost use Rattle.leaf.specs.Search.{said_searched, search_said};
 
-use leaf::{Entry, Searched};
+use leaf::{Entry, Outcome, Refused};
 
 // Searches a leaf with these fifteen entries lent.
 pub fn search(
@@ -14,7 +14,7 @@ pub fn search(
     ikey: u64,
     shift_count: usize,
     suffix_start: usize,
-) -> Searched
+) -> Result<Outcome, Refused>
     ensures { said_searched result ≡ search_said word entries cells.now bytes.now key.now ikey
         shift_count suffix_start }
 {

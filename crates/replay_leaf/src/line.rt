@@ -3,7 +3,8 @@
 ghost use Rattle.std.specs.Prelude.{◌<◌};
 
 use crate::lent;
-use leaf::{Entry, Searched};
+use leaf::{Entry, Outcome, Refused};
+use std::array;
 
 // What a search said: 0, the outcome and its number; or the refusal's number and the word.
 #[derive(Clone, Copy)]
@@ -23,22 +24,16 @@ fn accepted(outcome: u64, value: usize) -> Said {
 }
 
 // What a search said, as numbers.
-fn told(searched: Searched) -> Said {
+fn told(searched: Result<Outcome, Refused>) -> Said {
     match searched {
-        Searched::Found(slot) => accepted(0, slot),
-        Searched::Conflict(slot) => accepted(1, slot),
-        Searched::Layer(slot) => accepted(2, slot),
-        Searched::NotFound(position) => accepted(3, position),
-        Searched::Refused {
-            why,
-            word,
-            ikey: _,
-            shift_count: _,
-            suffix_start: _,
-        } => Said {
-            number: refusal::number(why),
+        Ok(Outcome::Found(slot)) => accepted(0, slot),
+        Ok(Outcome::Conflict(slot)) => accepted(1, slot),
+        Ok(Outcome::Layer(slot)) => accepted(2, slot),
+        Ok(Outcome::NotFound(position)) => accepted(3, position),
+        Err(refused) => Said {
+            number: refusal::number(refused.why),
             outcome: 0,
-            value: word,
+            value: refused.word,
         },
     }
 }
@@ -57,27 +52,15 @@ fn entry_at(text: &[u8], slot: usize) -> Entry
 
 // The entries of the line, by slot.
 fn entries_of(text: &[u8]) -> [Entry; 15] {
-    let mut entries = [Entry {
-        ikey: 0,
-        class: 0,
-        at: 0,
-    }; 15];
-    let mut slot: usize = 0;
-    while slot < 15 {
-        entries[slot] = entry_at(text, slot);
-        slot += 1;
-    }
-    entries
+    array::from_fn(|slot| entry_at(text, slot))
 }
 
 // The two words of each cell: its length + 1, and a frame number.
 fn cells_of(text: &[u8]) -> [u64; 40] {
     let mut cells = [0u64; 40];
-    let mut cell: usize = 0;
-    while cell < 15 {
+    for cell in 0..15 {
         cells[2 * cell] = hex_digits::four(text, 540 + 62 * cell);
         cells[2 * cell + 1] = 7;
-        cell += 1;
     }
     cells
 }
@@ -85,14 +68,10 @@ fn cells_of(text: &[u8]) -> [u64; 40] {
 // The bytes of the cells: 256 each, of which the line has the first 28.
 fn bytes_of(text: &[u8]) -> [u8; 4200] {
     let mut bytes = [0u8; 4200];
-    let mut cell: usize = 0;
-    while cell < 15 {
-        let mut k: usize = 0;
-        while k < 28 {
+    for cell in 0..15 {
+        for k in 0..28 {
             bytes[256 * cell + k] = hex_digits::byte(text, 545 + 62 * cell + 2 * k);
-            k += 1;
         }
-        cell += 1;
     }
     bytes
 }
@@ -100,10 +79,8 @@ fn bytes_of(text: &[u8]) -> [u8; 4200] {
 // The key, of which the line has the first 28 bytes.
 fn key_of(text: &[u8]) -> [u8; 300] {
     let mut key = [0u8; 300];
-    let mut k: usize = 0;
-    while k < 28 {
+    for k in 0..28 {
         key[k] = hex_digits::byte(text, 108 + 2 * k);
-        k += 1;
     }
     key
 }
@@ -138,21 +115,15 @@ fn ask_lent(text: &[u8], cells: &[u64], bytes: &[u8], key: &[u8]) -> Said {
 
 // Whether the line has this answer.
 fn is_recorded(text: &[u8], answer: Said) -> bool {
-    if answer.number != hex_digits::two(text, 2) {
-        return false;
-    }
-    if answer.outcome != hex_digits::two(text, 5) {
-        return false;
-    }
-    answer.value == hex_digits::sixteen(text, 8)
+    answer.number == hex_digits::two(text, 2)
+        && answer.outcome == hex_digits::two(text, 5)
+        && answer.value == hex_digits::sixteen(text, 8)
 }
 
 // Whether both searches say what the line says.
 fn agree_both(text: &[u8], cells: &[u64], bytes: &[u8], key: &[u8]) -> bool {
-    if !is_recorded(text, ask(text, cells, bytes, key)) {
-        return false;
-    }
-    is_recorded(text, ask_lent(text, cells, bytes, key))
+    is_recorded(text, ask(text, cells, bytes, key))
+        && is_recorded(text, ask_lent(text, cells, bytes, key))
 }
 
 // Whether the port says what the line says, with as many words and bytes lent as the line says.
@@ -160,16 +131,10 @@ fn agrees_on(text: &[u8], cells: &[u64], bytes: &[u8], key: &[u8]) -> bool {
     let words = hex_digits::four(text, 93) as usize;
     let room = hex_digits::four(text, 98) as usize;
     let length = hex_digits::four(text, 103) as usize;
-    if cells.len() < words {
+    if cells.len() < words || bytes.len() < room || key.len() < length {
         return false;
     }
-    if bytes.len() < room {
-        return false;
-    }
-    if key.len() < length {
-        return false;
-    }
-    agree_both(text, &cells[0..words], &bytes[0..room], &key[0..length])
+    agree_both(text, &cells[..words], &bytes[..room], &key[..length])
 }
 
 // Whether the port says to the recorded search what the line says.

@@ -12,7 +12,7 @@ fn main(rt: HostRuntime) -> io::Result<()> {
     let mut from = rt.stdin();
     let mut to = rt.stdout();
     let mut tally = tally::none();
-    while tally.answers < u64::MAX {
+    for _ in 0..u64::MAX {
         let mut text = [0u8; 1470];
         if !tally::next(&mut from, &mut to, &mut text)? {
             break;

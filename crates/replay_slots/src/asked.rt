@@ -3,7 +3,8 @@ ghost use Rattle.std.specs.Prelude.{◌≡◌, ◌<◌};
 ghost use Rattle.permuter.specs.Answers.{said_changed, said_inserted, said_told, said_made};
 ghost use Rattle.replay_slots.specs.Recorded.{said_of, called};
 
-use permuter::{Changed, Inserted, Made, Told};
+use permuter::{HandedOut, Refused};
+use refusal::Refusal;
 
 // The number, the first value, the second and the third; 0 where there is none.
 #[derive(Clone, Copy)]
@@ -14,87 +15,60 @@ pub struct Said {
     pub third: u64,
 }
 
+// A number, and one value beside it.
+fn one(number: u64, first: u64) -> Said
+    ensures { result ≡ record { number = number; first = first; second = 0; third = 0 } }
+{
+    Said {
+        number,
+        first,
+        second: 0,
+        third: 0,
+    }
+}
+
 // A changed word, or a refusal and the word as it was.
-fn of_changed(answer: Changed) -> Said
+fn of_changed(answer: Result<u64, Refused>) -> Said
     ensures { result ≡ said_of (said_changed answer) }
 {
     match answer {
-        Changed::Word(word) => Said {
-            number: 0,
-            first: word,
-            second: 0,
-            third: 0,
-        },
-        Changed::Refused { why, word } => Said {
-            number: refusal::number(why),
-            first: word,
-            second: 0,
-            third: 0,
-        },
+        Ok(word) => one(0, word),
+        Err(refused) => one(refusal::number(refused.why), refused.word),
     }
 }
 
 // The word after an insertion, the slot handed out and how many rest, or a refusal and the word as it was.
-fn of_inserted(answer: Inserted) -> Said
+fn of_inserted(answer: Result<HandedOut, Refused>) -> Said
     ensures { result ≡ said_of (said_inserted answer) }
 {
     match answer {
-        Inserted::Slot {
-            word,
-            slot,
-            resting,
-        } => Said {
+        Ok(out) => Said {
             number: 0,
-            first: word,
-            second: slot as u64,
-            third: resting as u64,
+            first: out.word,
+            second: out.slot as u64,
+            third: out.resting as u64,
         },
-        Inserted::Refused { why, word } => Said {
-            number: refusal::number(why),
-            first: word,
-            second: 0,
-            third: 0,
-        },
+        Err(refused) => one(refusal::number(refused.why), refused.word),
     }
 }
 
 // A number told of a word, or a refusal and the word.
-fn of_told(answer: Told) -> Said
+fn of_told(answer: Result<usize, Refused>) -> Said
     ensures { result ≡ said_of (said_told answer) }
 {
     match answer {
-        Told::Number(number) => Said {
-            number: 0,
-            first: number as u64,
-            second: 0,
-            third: 0,
-        },
-        Told::Refused { why, word } => Said {
-            number: refusal::number(why),
-            first: word,
-            second: 0,
-            third: 0,
-        },
+        Ok(number) => one(0, number as u64),
+        Err(refused) => one(refusal::number(refused.why), refused.word),
     }
 }
 
 // A word that was made, or a refusal alone.
-fn of_made(answer: Made) -> Said
+fn of_made(answer: Result<u64, Refusal>) -> Said
     ensures { result ≡ said_of (said_made answer) }
 {
     match answer {
-        Made::Word(word) => Said {
-            number: 0,
-            first: word,
-            second: 0,
-            third: 0,
-        },
-        Made::Refused(why) => Said {
-            number: refusal::number(why),
-            first: 0,
-            second: 0,
-            third: 0,
-        },
+        Ok(word) => one(0, word),
+        Err(why) => one(refusal::number(why), 0),
     }
 }
 
@@ -119,11 +93,6 @@ pub fn ask(call: u64, width: usize, word: u64, a: usize, b: usize) -> Said
         13 => of_changed(permuter::exchange(word, width, a, b)),
         14 => of_changed(permuter::rotate(word, width, a, b)),
         15 => of_changed(permuter::insert_first_free(word, width, a)),
-        _ => Said {
-            number: 16,
-            first: 0,
-            second: 0,
-            third: 0,
-        },
+        _ => one(16, 0),
     }
 }

@@ -1,5 +1,6 @@
 // A recorded call put to the library `wide_bank`, and its answer: a number, two values, and the bank that is handed back.
-use wide_bank::{Changed, Handed, Inserted, Outcome, Told};
+use refusal::Refusal;
+use wide_bank::{HandedOut, Refused};
 
 // What a call said: 0 or the number of a refusal, a number told or 0, how many rest or 0, and the bank.
 #[derive(Clone, Copy)]
@@ -10,61 +11,55 @@ pub struct Said {
     pub bank: [u8; 25],
 }
 
+// A refusal and the bank beside it.
+fn of_refused(why: Refusal, bank: [u8; 25]) -> Said {
+    Said {
+        number: refusal::number(why),
+        told: 0,
+        resting: 0,
+        bank,
+    }
+}
+
 // A bank that was changed or made, or a refusal and the bank beside it.
-fn of_changed(answer: Changed) -> Said {
-    let bank = answer.bank;
-    let outcome = answer.outcome;
-    match outcome {
-        Outcome::Accepted => Said {
+fn of_changed(answer: Result<[u8; 25], Refused>) -> Said {
+    match answer {
+        Ok(bank) => Said {
             number: 0,
             told: 0,
             resting: 0,
             bank,
         },
-        Outcome::Refused(why) => Said {
-            number: refusal::number(why),
-            told: 0,
-            resting: 0,
-            bank,
-        },
+        Err(refused) => of_refused(refused.why, refused.bank),
     }
 }
 
 // The bank after an insertion, the slot handed out and how many rest, or a refusal and the bank as it was.
-fn of_inserted(answer: Inserted) -> Said {
-    let bank = answer.bank;
-    let handed = answer.handed;
-    match handed {
-        Handed::Slot { slot, resting } => Said {
-            number: 0,
-            told: slot as u64,
-            resting: resting as u64,
-            bank,
-        },
-        Handed::Refused(why) => Said {
-            number: refusal::number(why),
-            told: 0,
-            resting: 0,
-            bank,
-        },
+fn of_inserted(answer: Result<HandedOut, Refused>) -> Said {
+    match answer {
+        Ok(out) => {
+            let bank = out.bank;
+            Said {
+                number: 0,
+                told: out.slot as u64,
+                resting: out.resting as u64,
+                bank,
+            }
+        }
+        Err(refused) => of_refused(refused.why, refused.bank),
     }
 }
 
 // A number told of a bank, or a refusal; the bank is as it was.
-fn of_told(answer: Told, bank: [u8; 25]) -> Said {
+fn of_told(answer: Result<usize, Refusal>, bank: [u8; 25]) -> Said {
     match answer {
-        Told::Number(number) => Said {
+        Ok(number) => Said {
             number: 0,
             told: number as u64,
             resting: 0,
             bank,
         },
-        Told::Refused(why) => Said {
-            number: refusal::number(why),
-            told: 0,
-            resting: 0,
-            bank,
-        },
+        Err(why) => of_refused(why, bank),
     }
 }
 

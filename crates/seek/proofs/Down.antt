@@ -12,8 +12,8 @@ use borrow.Author.Count.{below_more}
 use borrow.Author.Tests.{le-leb, lt-leb}
 use Rattle.bank.specs.Bank.{slot_at}
 use Rattle.order.specs.Layer.{ikey_at, class_of, class_at}
-use Rattle.ikey.specs.declared.Ordering.{Ordering as Ordered}
-use Rattle.ikey.specs.declared.Ordering.TheVariants.{Less, Equal, Greater}
+use Rattle.std.specs.declared.cmp.Ordering.{Ordering as Ordered}
+use Rattle.std.specs.declared.cmp.Ordering.TheVariants.{Less, Equal, Greater}
 use Rattle.ikey.specs.Said.{order_of}
 use Rattle.internode.specs.Lists.{one_more_or, after_last}
 use Rattle.leaf_entries.specs.declared.Entry.{Entry}

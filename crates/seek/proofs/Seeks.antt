@@ -11,8 +11,8 @@ use borrow.Author.Tests.{lt-ltb, le-ltb, eq-eqb, ne_eqb}
 use Rattle.bank.specs.Bank.{slot_at}
 use Rattle.order.specs.Bytes.{bytewise}
 use Rattle.order.specs.Layer.{ikey_at, class_at}
-use Rattle.ikey.specs.declared.Ordering.{Ordering as Ordered}
-use Rattle.ikey.specs.declared.Ordering.TheVariants.{Less, Equal, Greater}
+use Rattle.std.specs.declared.cmp.Ordering.{Ordering as Ordered}
+use Rattle.std.specs.declared.cmp.Ordering.TheVariants.{Less, Equal, Greater}
 use Rattle.ikey.specs.Said.{order_of}
 use Rattle.leaf_entries.specs.declared.Entry.{Entry}
 use Rattle.leaf.specs.Leaf.{none, slots_of}

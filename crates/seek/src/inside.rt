@@ -19,12 +19,12 @@ ghost use Rattle.seek.specs.Places.{place_among};
 ghost use Rattle.seek.specs.Within.{Within};
 ghost use Rattle.seek.specs.Below.{layers_below, cells_at};
 
-use ikey::Ordering;
 use leaf::Entry;
 use leaf::inside::size_of;
 use memory_layout::{CELL_WORDS, CHILDREN, HEADER_WORDS, IKEYS, NODE_WORDS, REFS};
 use model::{Met, Reached};
 use node_words::inside::{entry_of, slot_of, word_of};
+use std::cmp::Ordering;
 
 // ---- down a layer
 

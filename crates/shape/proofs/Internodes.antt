@@ -114,9 +114,11 @@ module _ (nodes : List ℕ) where
     pub down-leaf : (get_or nodes (2 + n * 47) 0 ≡ 2 → ⊥) → h ≡ height_at nodes 255 root
     down-leaf q = ends (no-internode (255 - h) n q)
 
-    pub down-all : 255 ≤ h → h ≡ height_at nodes 255 root
+    pub down-all : h ≤ 255 → 255 ≤ h → 255 ≡ height_at nodes 255 root
     unfolding height_at
-    down-all l = ends (ap (λ (m : ℕ). height_at nodes m n) (let z : 255 - h ≡ 0 = omega arith in z))
+    down-all m l =
+        (let z : 255 ≡ h = omega arith in z)
+        ∙ ends (ap (λ (m : ℕ). height_at nodes m n) (let z : 255 - h ≡ 0 = omega arith in z))
 
     pub down-next : h < 255 → get_or nodes (2 + n * 47) 0 ≡ 2
         → height_at nodes 255 root ≡ h + 1 + height_at nodes (255 - (h + 1)) (get_or nodes (2 + n * 47 + 17) 0)

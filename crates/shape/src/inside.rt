@@ -42,13 +42,11 @@ pub fn ikeys_rising(words: &[u64], at: usize, n: usize) -> bool
     requires { at + n ≤ length words.now }
     ensures { result ≡ internode.rising (part words.now at n) }
 {
-    let mut i: usize = 1;
     // The first i words strictly rise.
-    while i < n {
+    for i in 1..n {
         if words[at + i] <= words[at + i - 1] {
             return false;
         }
-        i += 1;
     }
     true
 }
@@ -67,9 +65,8 @@ pub fn height(nodes: &[u64], count: usize, root: u64) -> usize
     ensures { result ≡ height_at nodes.now 255 root }
 {
     let mut n = root;
-    let mut h: usize = 0;
     // n is reached from the root by h first children.
-    while h < 255 {
+    for h in 0..255 {
         if count as u64 <= n {
             return h;
         }
@@ -78,7 +75,6 @@ pub fn height(nodes: &[u64], count: usize, root: u64) -> usize
             return h;
         }
         n = nodes[at + CHILDREN];
-        h += 1;
     }
-    h
+    255
 }

@@ -35,13 +35,11 @@ pub fn is_under(key: &[u8], above: &[u64], links: usize) -> bool
     if key.len() <= 8 * links {
         return false;
     }
-    let mut i: usize = 0;
     // The key has the ikeys of the first i links, and goes on behind each.
-    while i < links {
+    for i in 0..links {
         if keys_read::inside::eight(&key[8 * i..]) != above[i] {
             return false;
         }
-        i += 1;
     }
     true
 }
@@ -50,20 +48,14 @@ pub fn is_under(key: &[u8], above: &[u64], links: usize) -> bool
 pub fn left_behind(len: usize, offset: usize) -> usize
     ensures { result ≡ len - offset }
 {
-    if len < offset {
-        return 0;
-    }
-    len - offset
+    len.saturating_sub(offset)
 }
 
 // The class of so many bytes: 0 to 8, or 9 for longer.
 pub fn class_of(left: usize) -> u64
     ensures { result ≡ class_of left }
 {
-    if 9 < left {
-        return 9;
-    }
-    left as u64
+    left.min(9) as u64
 }
 
 // Whether a key has the ikeys of the links above it, then this ikey and length class.

@@ -151,55 +151,47 @@ every_more (e ∷ es) (suc n) l =
 
 module _ (nodes : List ℕ) (k word : ℕ) (v : valid_word 15 word ≡ true) (w : word ≡ word_at nodes k 1) where
   module _ {size : ℕ} (s : size ≡ word % 16) where
-    pub left-first : 15 - size ≤ 15 - word % 16
-    left-first = omega arith
-
-    pub nibbles-first : word / 16 / 2 ^ (4 * size) ≡ word / 2 ^ (4 * (16 - (15 - size)))
+    pub nibbles-first : word / 16 / 2 ^ (4 * size) ≡ word / 2 ^ (4 * (size + 1))
     nibbles-first =
         shr-shr word 4 (4 * size)
-        ∙ ap (λ (n : ℕ). word / 2 ^ n) (let z : 4 + 4 * size ≡ 4 * (16 - (15 - size)) = omega arith in z)
+        ∙ ap (λ (n : ℕ). word / 2 ^ n) (let z : 4 + 4 * size ≡ 4 * (size + 1) = omega arith in z)
 
-    pub over_first : eqb 0 0 ≡ every is_zero (take (15 - word % 16 - (15 - size)) (rest_at nodes k))
+    pub over_first : eqb 0 0 ≡ every is_zero (take (size - word % 16) (rest_at nodes k))
     unfolding every
     over_first =
-        ap (λ (n : ℕ). every is_zero (take n (rest_at nodes k))) (let z : 0 ≡ 15 - word % 16 - (15 - size) = omega arith in z)
+        ap (λ (n : ℕ). every is_zero (take n (rest_at nodes k))) (let z : 0 ≡ size - word % 16 = omega arith in z)
 
-  module _ {rest left : ℕ} (l : 0 < left) (m : left ≤ 15 - word % 16) (er : rest ≡ word / 2 ^ (4 * (16 - left))) where
-    nibble-left : rest ≡ word / 2 ^ (4 * (15 - left + 1))
-    nibble-left = er ∙ ap (λ (n : ℕ). word / 2 ^ (4 * n)) (let z : 16 - left ≡ 15 - left + 1 = omega arith in z)
+    module _ {rest i : ℕ} (m : size ≤ i) (l : i < 15) (er : rest ≡ word / 2 ^ (4 * (i + 1))) where
+      pub nibbles-next : rest / 16 ≡ word / 2 ^ (4 * (i + 1 + 1))
+      nibbles-next =
+          ap (λ (x : ℕ). x / 16) er
+          ∙ shr-shr word (4 * (i + 1)) 4
+          ∙ ap (λ (n : ℕ). word / 2 ^ n) (let z : 4 * (i + 1) + 4 ≡ 4 * (i + 1 + 1) = omega arith in z)
 
-    pub nibbles-next : rest / 16 ≡ word / 2 ^ (4 * (16 - (left - 1)))
-    nibbles-next =
-        ap (λ (x : ℕ). x / 16) er
-        ∙ shr-shr word (4 * (16 - left)) 4
-        ∙ ap (λ (n : ℕ). word / 2 ^ n) (let z : 4 * (16 - left) + 4 ≡ 4 * (16 - (left - 1)) = omega arith in z)
+      module _ {slot : ℕ} (es : slot ≡ rest % 16) where
+        slot-left : slot ≡ slot_at i (slots_of word)
+        slot-left = slot-in-word word i l (es ∙ ap (λ (x : ℕ). x % 16) er)
 
-    module _ {slot : ℕ} (es : slot ≡ rest % 16) where
-      slot-left : slot ≡ slot_at (15 - left) (slots_of word)
-      slot-left = slot-in-word word (15 - left) (omega arith) (es ∙ ap (λ (x : ℕ). x % 16) nibble-left)
+        pub slot-left-lt : slot < 15
+        slot-left-lt = slot-fifteen word v i l slot-left
 
-      pub slot-left-lt : slot < 15
-      slot-left-lt = slot-fifteen word v (15 - left) (omega arith) slot-left
+        here : get_or (rest_at nodes k) (i - word % 16) none ≡ entry_at nodes k slot
+        here = other_at nodes k word v w i (omega arith) l slot-left
 
-      here : get_or (rest_at nodes k) (15 - word % 16 - left) none ≡ entry_at nodes k slot
-      here =
-          ap (λ (n : ℕ). get_or (rest_at nodes k) n none) (let z : 15 - word % 16 - left ≡ 15 - left - word % 16 = omega arith in z)
-          ∙ other_at nodes k word v w (15 - left) (omega arith) (omega arith) slot-left
+        pub over-next : {a : Entry} (r found : ℕ) → a ≡ entry_at nodes k slot → eqb r 0 ≡ is_zero a
+            → eqb found 0 ≡ every is_zero (take (i - word % 16) (rest_at nodes k))
+            → eqb (bit_or found r) 0 ≡ every is_zero (take (i + 1 - word % 16) (rest_at nodes k))
+        over-next {a} r found ea q f =
+            or-none found r
+            ∙ ap₂ ◌&&◌ f (q ∙ ap is_zero (ea ∙ sym here))
+            ∙ sym (every_more (rest_at nodes k) (i - word % 16) (omega (arith, other_length nodes k word v w)))
+            ∙ ap (λ (n : ℕ). every is_zero (take n (rest_at nodes k)))
+            (let z : suc (i - word % 16) ≡ i + 1 - word % 16 = omega arith in z)
 
-      pub over-next : {a : Entry} (r found : ℕ) → a ≡ entry_at nodes k slot → eqb r 0 ≡ is_zero a
-          → eqb found 0 ≡ every is_zero (take (15 - word % 16 - left) (rest_at nodes k))
-          → eqb (bit_or found r) 0 ≡ every is_zero (take (15 - word % 16 - (left - 1)) (rest_at nodes k))
-      over-next {a} r found ea q f =
-          or-none found r
-          ∙ ap₂ ◌&&◌ f (q ∙ ap is_zero (ea ∙ sym here))
-          ∙ sym (every_more (rest_at nodes k) (15 - word % 16 - left) (omega (arith, other_length nodes k word v w)))
-          ∙ ap (λ (n : ℕ). every is_zero (take n (rest_at nodes k)))
-          (let z : suc (15 - word % 16 - left) ≡ 15 - word % 16 - (left - 1) = omega arith in z)
-
-  pub over-all : {left : ℕ} (found : ℕ) → left ≤ 0 → eqb found 0 ≡ every is_zero (take (15 - word % 16 - left) (rest_at nodes k))
+  pub over-all : {i : ℕ} (found : ℕ) → 15 ≤ i → eqb found 0 ≡ every is_zero (take (i - word % 16) (rest_at nodes k))
       → eqb found 0 ≡ every is_zero (rest_at nodes k)
-  over-all {left} found l f =
-      f ∙ ap (every is_zero) (take_all (15 - word % 16 - left) (rest_at nodes k) (omega (arith, other_length nodes k word v w)))
+  over-all {i} found l f =
+      f ∙ ap (every is_zero) (take_all (i - word % 16) (rest_at nodes k) (omega (arith, other_length nodes k word v w)))
 
 -- ---- the whole leaf
 
@@ -237,6 +229,6 @@ pub ruleset classes = (class-not, class-next, class-all)
 
 pub ruleset orders = (order-not, order-next, order-all)
 
-pub ruleset rests = (left-first, nibbles-first, over_first, slot-left-lt, nibbles-next, over-next, over-all)
+pub ruleset rests = (nibbles-first, over_first, slot-left-lt, nibbles-next, over-next, over-all)
 
 pub ruleset leaves = (leaf-kind, leaf-word, leaf-classes, leaf-order, leaf-rest)

@@ -50,14 +50,12 @@ pub fn entries_of_class(nodes: &[u64], k: usize, word: u64) -> bool
     ensures { result ≡ every of_class (entries_at nodes.now k) }
 {
     let size = size_of(word);
-    let mut i: usize = 0;
     // The entries before position i have such a class.
-    while i < size {
+    for i in 0..size {
         let slot = slot_at(word, i);
         if 10 < nodes[HEADER_WORDS + k * NODE_WORDS + CLASSES + slot] {
             return false;
         }
-        i += 1;
     }
     true
 }
@@ -68,15 +66,13 @@ pub fn entries_rising(nodes: &[u64], k: usize, word: u64) -> bool
     ensures { result ≡ rising (entries_at nodes.now k) }
 {
     let size = size_of(word);
-    let mut i: usize = 1;
     // The entries before position i strictly rise.
-    while i < size {
+    for i in 1..size {
         let e = entry_at(nodes, k, slot_at(word, i - 1));
         let d = entry_at(nodes, k, slot_at(word, i));
         if !leaf::inside::is_less(e, d) {
             return false;
         }
-        i += 1;
     }
     true
 }
@@ -89,14 +85,12 @@ pub fn rest_zero(nodes: &[u64], k: usize, word: u64) -> bool
 {
     let size = size_of(word);
     let mut rest = (word >> 4) >> (4 * size);
-    let mut left: usize = 15 - size;
     let mut found: u64 = 0;
-    // `left` free slots are still to come, `rest` has their nibbles, and `found` is 0 where those before are zero.
-    while 0 < left {
+    // `rest` has the nibbles of the free slots that are still to come, and `found` is 0 where those before are zero.
+    for _ in size..15 {
         let e = entry_at(nodes, k, size_of(rest));
-        found = found | laid_over(e);
-        rest = rest >> 4;
-        left -= 1;
+        found |= laid_over(e);
+        rest >>= 4;
     }
     found == 0
 }

@@ -1,11 +1,21 @@
 -- What each call on a slot word answers.
-use Rattle.std.specs.Prelude.{ℕ, false, List, [], ◌∷◌}
+use Rattle.std.specs.Prelude.{ℕ, false, List, [], ◌∷◌, Result, Ok, Err}
 use Rattle.refusal.specs.declared.Refusal.{Refusal}
 use Rattle.refusal.specs.Refusals.{number_of}
 use Rattle.refusal.specs.Answer.{Answer, Rule, ◌unless◌, answered}
 use Rattle.bank.specs.Calls.{Change, Question}
 use Rattle.bank.specs.Holder.{held_rules, changed_in, asked_in, made_sorted_in, made_empty_in}
-use Rattle.nibbles.specs.Words.{words}
+use Rattle.nibbles.specs.Words.{words, judged}
+use Rattle.slot_answers.specs.declared.Refused.{Refused}
+
+-- what a judgement says, with the word as given beside a refusal
+abbrev pub with_word : ℕ → Result (Unit {0}) Refusal → Result (Unit {0}) Refused
+with_word word (Ok done) = Ok done
+with_word word (Err why) = Err (record { why = why; word = word })
+
+-- the judgement of a word, which hands it back where it is refused
+abbrev pub judged_back : ℕ → ℕ → Result (Unit {0}) Refused
+judged_back w word = with_word word (judged w word)
 
 -- what every call on a word needs, and then what this one needs, by rising number
 abbrev pub word_rules : ℕ → ℕ → List Rule → List Rule

@@ -1,39 +1,31 @@
-// The answers of the calls on slot words: what the crates above share, the questions, the places and the permuter.
+// The answers of the calls on slot words, and the judgement that most begin with: what the crates above share, the questions, the places
+// and the permuter.
 #![tactic(auto)]
 
+ghost use Rattle.std.specs.Prelude.{◌≡◌};
+ghost use Rattle.slot_answers.specs.Words.{judged_back};
+
+use nibbles::inside::judge;
 use refusal::Refusal;
 
-// A word that was changed, or the word as it was given.
+// A refused call: why, and the word as it was given.
 #[derive(Clone, Copy)]
-pub enum Changed {
-    Word(u64),
-    Refused { why: Refusal, word: u64 },
+pub struct Refused {
+    pub why: Refusal,
+    pub word: u64,
 }
 
-// The word after an insertion, the slot handed out and how many rest, or the word as it was given.
+// The word after an insertion, the slot handed out and how many rest.
 #[derive(Clone, Copy)]
-pub enum Inserted {
-    Slot {
-        word: u64,
-        slot: usize,
-        resting: usize,
-    },
-    Refused {
-        why: Refusal,
-        word: u64,
-    },
+pub struct HandedOut {
+    pub word: u64,
+    pub slot: usize,
+    pub resting: usize,
 }
 
-// A number told of a word, or the word as it was given.
-#[derive(Clone, Copy)]
-pub enum Told {
-    Number(usize),
-    Refused { why: Refusal, word: u64 },
-}
-
-// A word that was made.
-#[derive(Clone, Copy)]
-pub enum Made {
-    Word(u64),
-    Refused(Refusal),
+// Whether a word may be used at its width; refused, the word goes back as it was given.
+pub fn judged(word: u64, width: usize) -> Result<(), Refused>
+    ensures { result ≡ judged_back width word }
+{
+    judge(word, width).map_err(|why| Refused { why, word })
 }

@@ -7,48 +7,38 @@ ghost use Rattle.bank.specs.Calls.{from_value};
 ghost use Rattle.slot_answers.specs.Words.{changed, made_sorted, made_empty};
 ghost use Rattle.slot_answers.specs.Answers.{said_changed, said_made};
 
-use bank::Verdict;
-use nibbles::inside::judge;
 use refusal::Refusal;
-use slot_answers::{Changed, Made};
+use slot_answers::{Refused, judged};
 use slots_sorted::inside::sorted;
 use turns::inside;
 
 // The word with no slot in use: slot 0 at the back goes out first.
-pub fn empty(width: usize) -> Made
+pub fn empty(width: usize) -> Result<u64, Refusal>
     ensures { said_made result ≡ made_empty width }
 {
-    if width < 1 {
-        return Made::Refused(Refusal::Width);
+    if width < 1 || 15 < width {
+        return Err(Refusal::Width);
     }
-    if 15 < width {
-        return Made::Refused(Refusal::Width);
-    }
-    Made::Word(sorted(width, 0))
+    Ok(sorted(width, 0))
 }
 
 // The word with slots 0 to n-1 in use, in order.
-pub fn make_sorted(width: usize, n: usize) -> Made
+pub fn make_sorted(width: usize, n: usize) -> Result<u64, Refusal>
     ensures { said_made result ≡ made_sorted width n }
 {
-    if width < 1 {
-        return Made::Refused(Refusal::Width);
-    }
-    if 15 < width {
-        return Made::Refused(Refusal::Width);
+    if width < 1 || 15 < width {
+        return Err(Refusal::Width);
     }
     if width < n {
-        return Made::Refused(Refusal::Position);
+        return Err(Refusal::Position);
     }
-    Made::Word(sorted(width, n))
+    Ok(sorted(width, n))
 }
 
 // A word from outside, without what strays above its width, where that is valid.
-pub fn from_value(word: u64, width: usize) -> Changed
+pub fn from_value(word: u64, width: usize) -> Result<u64, Refused>
     ensures { said_changed result ≡ changed width word from_value }
 {
-    if let Verdict::No(why) = judge(word, width) {
-        return Changed::Refused { why, word };
-    }
-    Changed::Word(inside::cleared(word, width))
+    judged(word, width)?;
+    Ok(inside::cleared(word, width))
 }

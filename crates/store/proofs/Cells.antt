@@ -6,8 +6,7 @@ use native.Mathlib.Omega.{arith}
 use borrow.Author.Rules.{rules}
 use lib.ListN.{length, get_or, take, drop, length-drop, get_or-eq_default}
 use lib.Seq.{take_all}
-use Rattle.lent_nodes.specs.declared.inside.Lowest.{Lowest}
-use Rattle.lent_nodes.specs.declared.inside.Lowest.TheVariants.{At, Nothing}
+use Rattle.std.specs.Prelude.{Option, Some, None}
 use Rattle.arena.specs.Parts.{part}
 use Rattle.arena.specs.Layout.{cell_start, mark_at, key_at}
 use Rattle.arena.specs.Free.{free_cells, lowest}
@@ -16,15 +15,15 @@ use Rattle.seek.specs.Lengths.{CellsLent}
 
 -- ---- the lowest free cell
 
-module _ (cells : List ℕ) (n : ℕ) {r : Lowest} (e : r ≡ lowest (free_cells cells n)) where
-  pub fresh_at : {k : ℕ} → r ≡ At k → k ≡ get_or (free_cells cells n) 0 0
+module _ (cells : List ℕ) (n : ℕ) {r : Option ℕ} (e : r ≡ lowest (free_cells cells n)) where
+  pub fresh_at : {k : ℕ} → r ≡ Some k → k ≡ get_or (free_cells cells n) 0 0
   fresh_at a =
       let (rest, q) = lowest-first (free_cells cells n) (sym e ∙ a) in sym (ap (λ (ks : List ℕ). get_or ks 0 0) q)
 
-  pub fresh-none : r ≡ Nothing → 0 ≡ get_or (free_cells cells n) 0 0
+  pub fresh-none : r ≡ None → 0 ≡ get_or (free_cells cells n) 0 0
   fresh-none a = sym (ap (λ (ks : List ℕ). get_or ks 0 0) (lowest-none (free_cells cells n) (sym e ∙ a)))
 
-  pub fresh-lt : {k : ℕ} → r ≡ At k → k < n
+  pub fresh-lt : {k : ℕ} → r ≡ Some k → k < n
   fresh-lt a = (lowest-free cell_start cells n (sym e ∙ a)).in-range
 
 -- ---- the key in a cell

@@ -8,8 +8,7 @@ use native.Mathlib.Omega.{arith}
 use borrow.Author.Rules.{rules}
 use borrow.Author.Tests.{le-leb}
 use lib.ListN.{length}
-use Rattle.lent_nodes.specs.declared.inside.Lowest.{Lowest}
-use Rattle.lent_nodes.specs.declared.inside.Lowest.TheVariants.{At, Nothing}
+use Rattle.std.specs.Prelude.{Option, Some, None}
 use Rattle.lent_nodes.proofs.Counts.{lowest-first, lowest-none}
 use Rattle.order.specs.Layer.{ikey_at}
 use Rattle.arena.specs.Layout.{key_at}
@@ -42,14 +41,14 @@ module _ (nodes cells bytes key : List ℕ) {met : Met} where
 
 -- ---- what is free
 
-module _ (cells : List ℕ) {r : Lowest} (e : r ≡ lowest (free_cells cells (length cells / 2))) where
-  pub cell_free : {k : ℕ} → r ≡ At k → true ≡ has_cell_in cells
+module _ (cells : List ℕ) {r : Option ℕ} (e : r ≡ lowest (free_cells cells (length cells / 2))) where
+  pub cell_free : {k : ℕ} → r ≡ Some k → true ≡ has_cell_in cells
   cell_free a =
       let (rest, q) = lowest-first (free_cells cells (length cells / 2)) (sym e ∙ a) in
       let h : 1 ≤ length (free_cells cells (length cells / 2)) = rw q (omega arith) in
       sym (le-leb 1 (length (free_cells cells (length cells / 2))) h)
 
-  pub cell-none : r ≡ Nothing → false ≡ has_cell_in cells
+  pub cell-none : r ≡ None → false ≡ has_cell_in cells
   cell-none a = rw (lowest-none (free_cells cells (length cells / 2)) (sym e ∙ a)) refl
 
 module _ (nodes cells bytes key : List ℕ) (met : Met) (l : Lent nodes cells bytes met) {g need : ℕ}

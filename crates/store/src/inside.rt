@@ -13,7 +13,6 @@ ghost use Rattle.model.specs.Calls.{needed_at, nodes_with, with_count, rests_pas
 ghost use Rattle.seek.specs.Lengths.{NodesLent, CellsLent};
 ghost use Rattle.store.specs.Places.{has_cell_in, lacking_at, with_at, rests_with, Lent};
 
-use arena::inside::Lowest;
 use memory_layout::{CELL_BYTES, CELL_WORDS, CLASSES, HEADER_WORDS, NODE_WORDS, REFS};
 use model::Met;
 
@@ -23,7 +22,7 @@ fn lowest_cell(cells: &[u64]) -> usize
     ensures { (result ≡ get_or (free_cells cells.now (cell_count (length cells.now))) 0 0)
         × (result < cell_count (length cells.now)) }
 {
-    let Lowest::At(c) = arena::inside::lowest_free_cell(cells, cells.len() / CELL_WORDS) else {
+    let Some(c) = arena::inside::lowest_free_cell(cells, cells.len() / CELL_WORDS) else {
         return 0;
     };
     c
@@ -85,7 +84,7 @@ fn needed(nodes: &[u64], cells: &[u64], bytes: &[u8], key: &[u8], met: Met) -> u
 pub fn has_cell(cells: &[u64]) -> bool
     ensures { result ≡ has_cell_in cells.now }
 {
-    let Lowest::At(_) = arena::inside::lowest_free_cell(cells, cells.len() / CELL_WORDS) else {
+    let Some(_) = arena::inside::lowest_free_cell(cells, cells.len() / CELL_WORDS) else {
         return false;
     };
     true

@@ -23,6 +23,7 @@ fn filled<R: Read>(from: &mut R, text: &mut [u8]) -> io::Result<usize>
     ensures end { IfOk result (λ n. n < length text.new → IsAtEnd (R.remaining from.new)) }
 {
     let mut done: usize = 0;
+    // No `for`: a read gives any number of bytes; and `read_exact` does not tell how many came before the end.
     while done < text.len() {
         let n = from.read(&mut text[done..])?;
         if n == 0 {
@@ -62,13 +63,6 @@ pub fn none() -> Tally
     }
 }
 
-// The next number, up to the largest.
-fn one_more(n: u64) -> u64
-    ensures { result ≡ min (n + 1) 18446744073709551615 }
-{
-    if n < u64::MAX { n + 1 } else { n }
-}
-
 // One answer more. Of one that differs its number and its text are printed.
 pub fn counted<W: Write>(to: &mut W, tally: Tally, agrees: bool, text: &[u8]) -> io::Result<Tally>
     ensures answers_value { IfOk result (λ r. r.answers ≡ min (tally.answers + 1) 18446744073709551615) }
@@ -77,7 +71,7 @@ pub fn counted<W: Write>(to: &mut W, tally: Tally, agrees: bool, text: &[u8]) ->
     ensures printed { OnOk result (Appends (W.contents to.old) (W.contents to.new) (if_differing agrees tally.answers text.now)) }
     ensures no_error { agrees ≡ true → IsOk result }
 {
-    let answers = one_more(tally.answers);
+    let answers = tally.answers.saturating_add(1);
     if agrees {
         return Ok(Tally {
             answers,
@@ -88,7 +82,7 @@ pub fn counted<W: Write>(to: &mut W, tally: Tally, agrees: bool, text: &[u8]) ->
     to.write_all(text)?;
     Ok(Tally {
         answers,
-        mismatches: one_more(tally.mismatches),
+        mismatches: tally.mismatches.saturating_add(1),
     })
 }
 

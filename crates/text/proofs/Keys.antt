@@ -1,19 +1,21 @@
 -- Laws on words and keys: bytes that are the same, hex digits, pairs of them. Assumes nothing.
-use Prim.Native.Nat.{ℕ, zero, suc, ◌+◌, ◌-◌, ◌*◌, ◌%◌, ◌≤◌, ◌<◌}
+use Prim.Native.Nat.{ℕ, zero, suc, ◌+◌, ◌-◌, ◌*◌, ◌/◌, ◌%◌, ◌≤◌, ◌<◌}
 use mathlib.Core.Path.{◌≡◌, refl, ap, sym, ◌∙◌}
-use mathlib.Core.Bool.{Bool, true, false, cond, ◌&&◌, ◌||◌, not}
+use mathlib.Core.Bool.{Bool, true, false, ◌&&◌, ◌||◌}
 use mathlib.Core.List.{List, [], ◌∷◌}
 use mathlib.Core.Logic.{◌⊎◌, inl, inr, ⊎_elim}
 use native.Mathlib.Numerals.{add-one}
 use native.Mathlib.Nat.{zero-add}
 use native.Mathlib.Omega.{arith}
 use lib.Dec.{eqb, leb, ltb}
-use lib.ListN.{length, get_or, set, take, drop}
+use Rattle.std.specs.Prelude.{bytes_eq, MatchBool}
+use Rattle.std.specs.List.{AllWithin, HoldsAt}
+use lib.ListN.{length, get_or, set, drop}
 use lib.Seq.{drop-cons, drop-length}
-use borrow.Author.Tests.{not-true, not-false, eq-eqb, ne_eqb, le-leb, lt-leb, lt-ltb, le-ltb, leb-true, leb-false, eqb-true, eqb-false}
+use borrow.Author.Tests.{eq-eqb, ne_eqb, le-leb, lt-leb, lt-ltb, leb-true}
 use Rattle.arena.specs.Parts.{part, put_part}
 use Rattle.arena.proofs.Words.{copy-none, copy_more, part-all}
-use Rattle.text.specs.Fields.{every, same, is_digit, is_hex, hex_value, pairs, dash, is_pairs, is_key, key_in}
+use Rattle.text.specs.Fields.{every, same, is_hex, hex_value, pairs, dash, is_pairs, is_key, key_in}
 
 -- a test that holds, or one that does not
 pub both : (a b : Bool) → (a && b) ≡ true → (a ≡ true) × (b ≡ true)
@@ -26,45 +28,12 @@ decide false f g = g refl
 
 -- ---- the same bytes
 
-same_length : (xs ys : List ℕ) → (length xs ≡ length ys → ⊥) → same xs ys ≡ false
+pub same_is : (xs ys : List ℕ) → bytes_eq xs ys ≡ same xs ys
 unfolding same
-same_length [] [] h = absurd (h refl)
-same_length [] (y ∷ ys) h = refl
-same_length (x ∷ xs) [] h = refl
-same_length (x ∷ xs) (y ∷ ys) h = rw (same_length xs ys (λ e. h (ap suc e))) (and_no (eqb x y))
-  where
-    and_no : (t : Bool) → (t && false) ≡ false
-    and_no true = refl
-    and_no false = refl
-
-module _ (xs ys : List ℕ) (i : ℕ) (hx : i < length xs) (hy : i < length ys) where
-  pub same_here : (get_or xs i 0 ≡ get_or ys i 0 → ⊥) → same (drop i xs) (drop i ys) ≡ false
-  unfolding same
-  same_here e = rw (drop-cons xs i 0 hx, drop-cons ys i 0 hy, ne_eqb (get_or xs i 0) (get_or ys i 0) e)
-
-  pub same_more : get_or xs i 0 ≡ get_or ys i 0 → same (drop i xs) (drop i ys) ≡ same (drop (i + 1) xs) (drop (i + 1) ys)
-  unfolding same
-  same_more e = rw (add-one i, drop-cons xs i 0 hx, drop-cons ys i 0 hy, eq-eqb (get_or xs i 0) (get_or ys i 0) e)
-
-pub same_end : (xs ys : List ℕ) (i : ℕ) → i ≡ length xs → length xs ≡ length ys → same (drop i xs) (drop i ys) ≡ true
-unfolding same
-same_end xs ys i e h = rw (e, drop-length) (rw (h, drop-length))
-
-module _ (xs ys : List ℕ) where
-  pub same_not : (length xs ≡ length ys → ⊥) → false ≡ same xs ys
-  same_not h = sym (same_length xs ys h)
-
-  pub same-differ : {i : ℕ} → length xs ≡ length ys → same xs ys ≡ same (drop i xs) (drop i ys) → i < length xs
-      → (get_or xs i 0 ≡ get_or ys i 0 → ⊥) → false ≡ same xs ys
-  same-differ {i} l e h d = sym (e ∙ same_here xs ys i h (omega arith) d)
-
-  pub same-again : {i : ℕ} → length xs ≡ length ys → same xs ys ≡ same (drop i xs) (drop i ys) → i < length xs → get_or xs i 0 ≡ get_or ys i 0
-      → same xs ys ≡ same (drop (i + 1) xs) (drop (i + 1) ys)
-  same-again {i} l e h d = e ∙ same_more xs ys i h (omega arith) d
-
-  pub same-done : {i : ℕ} → length xs ≡ length ys → same xs ys ≡ same (drop i xs) (drop i ys) → i ≤ length xs → length xs ≤ i
-      → true ≡ same xs ys
-  same-done {i} l e h k = sym (e ∙ same_end xs ys i (omega arith) l)
+same_is [] [] = refl
+same_is [] (y ∷ ys) = refl
+same_is (x ∷ xs) [] = refl
+same_is (x ∷ xs) (y ∷ ys) = ap (λ (t : Bool). eqb x y && t) (same_is xs ys)
 
 -- ---- every byte
 
@@ -87,6 +56,27 @@ every-at test [] i e h = absurd (omega arith)
 every-at test (b ∷ bs) zero e h = (both (test b) (every test bs) e).0
 every-at test (b ∷ bs) (suc i) e h = every-at test bs i (both (test b) (every test bs) e).1 (omega arith)
 
+every-all : (test : ℕ → Bool) (s : List ℕ) → ((k : ℕ) → k < length s → test (get_or s k 0) ≡ true) → every test s ≡ true
+unfolding every
+every-all test [] f = refl
+every-all test (b ∷ bs) f = rw (f 0 (omega arith)) (every-all test bs (λ k l. f (suc k) (omega arith)))
+
+-- what is told of a test of all bytes
+abbrev pub EachTold : (ℕ → Bool) → List ℕ → Bool → Type 0
+EachTold test s r =
+    MatchBool r (AllWithin (λ b. test b ≡ true) s 0 (length s)) ((k : ℕ) × (k < length s) × HoldsAt (λ b. test b ≡ false) s k)
+
+each_told : (test : ℕ → Bool) (s : List ℕ) (r : Bool) → EachTold test s r → r ≡ every test s
+each_told test s true h = sym (every-all test s (λ k l. h k 0 (omega arith) l))
+each_told test s false h =
+    decide (every test s)
+    (λ e.
+    let p = every-at test s h.0 e h.1 in
+    let q = h.2 0 in
+    let z : ◌≡◌ {A = ℕ} 0 1 = cc in
+    absurd (omega arith))
+    (λ e. sym e)
+
 -- ---- hex digits
 
 module _ (b : ℕ) where
@@ -94,17 +84,21 @@ module _ (b : ℕ) where
   unfolding is_hex
   hex-low h = rw (lt-leb 48 b h, lt-leb 97 b (omega arith))
 
-  pub hex-digit : 48 ≤ b → b ≤ 57 → true ≡ is_hex b
+  pub hex-digit : 48 ≤ b → b < 58 → true ≡ is_hex b
   unfolding is_hex
-  hex-digit h k = rw (le-leb 48 b h, le-leb b 57 k)
+  hex-digit h k = rw (le-leb 48 b h, le-leb b 57 (omega arith))
 
   pub hex-middle : 57 < b → b < 97 → false ≡ is_hex b
   unfolding is_hex
   hex-middle h k = rw (lt-leb b 57 h, lt-leb 97 b k, le-leb 48 b (omega arith))
 
-  pub hex-letter : 57 < b → 97 ≤ b → leb b 102 ≡ is_hex b
+  pub hex-letter : 97 ≤ b → b < 103 → true ≡ is_hex b
   unfolding is_hex
-  hex-letter h k = rw (lt-leb b 57 h, le-leb 97 b k, le-leb 48 b (omega arith))
+  hex-letter h k = rw (lt-leb b 57 (omega arith), le-leb 97 b h, le-leb 48 b (omega arith), le-leb b 102 (omega arith))
+
+  pub hex-high : 102 < b → false ≡ is_hex b
+  unfolding is_hex
+  hex-high h = rw (lt-leb b 57 (omega arith), le-leb 97 b (omega arith), le-leb 48 b (omega arith), lt-leb b 102 h)
 
   hex-tests : (l m n o : Bool) → leb 48 b ≡ l → leb b 57 ≡ m → leb 97 b ≡ n → leb b 102 ≡ o → ((l && m) || (n && o)) ≡ true
       → ((48 ≤ b) × (b ≤ 57)) ⊎ ((97 ≤ b) × (b ≤ 102))
@@ -170,11 +164,11 @@ module _ (d s : List ℕ) where
       let m = copy_more d 0 (pairs s) 0 i (omega arith) (omega arith) in
       rw (e, eh, el, ← pairs-at s i h) (rw zero-add at m)
 
-  pub pairs-done : {i : ℕ} {key : List ℕ} → key ≡ put_part d 0 (part (pairs s) 0 i) → 2 * i ≤ length s → length s ≤ 2 * i + 1
-      → (i ≡ length (pairs s)) × (key ≡ put_part d 0 (pairs s))
-  pairs-done {i} f h k =
+  pub pairs-done : {i : ℕ} {key : List ℕ} → key ≡ put_part d 0 (part (pairs s) 0 i) → i ≡ length s / 2
+      → (length s / 2 ≡ length (pairs s)) × (key ≡ put_part d 0 (pairs s))
+  pairs-done {i} f h =
       let e : length (pairs s) ≡ i = omega (arith, pairs-low s, pairs-high s) in
-      (sym e, f ∙ rw (part-all (pairs s) i e) refl)
+      (sym (e ∙ h), f ∙ rw (part-all (pairs s) i e) refl)
 
 -- ---- fields that are keys
 
@@ -191,27 +185,9 @@ module _ (s : List ℕ) where
       no_middle true b = refl
       no_middle false b = refl
 
-  pub pairs-not : {i : ℕ} {r : Bool} → every is_hex s ≡ every is_hex (drop i s) → i < length s → r ≡ is_hex (get_or s i 0) → not r ≡ true
-      → false ≡ is_pairs s
+  pub pairs-right : {r : Bool} → (length s ≡ 0 → ⊥) → length s % 2 ≡ 0 → EachTold is_hex s r → r ≡ is_pairs s
   unfolding is_pairs
-  pairs-not {i} {r} e h f n =
-      let g : every is_hex s ≡ false = e ∙ every-no is_hex s i h (sym f ∙ not-true r n) in
-      rw g (no_last (ltb 0 (length s) && eqb (length s % 2) 0))
-    where
-      no_last : (a : Bool) → false ≡ (a && false)
-      no_last true = refl
-      no_last false = refl
-
-  pub pairs-again : {i : ℕ} {r : Bool} → every is_hex s ≡ every is_hex (drop i s) → i < length s → r ≡ is_hex (get_or s i 0) → not r ≡ false
-      → every is_hex s ≡ every is_hex (drop (i + 1) s)
-  pairs-again {i} {r} e h f n = e ∙ every_more is_hex s i h (sym f ∙ not-false r n)
-
-  pub pairs-right : {i : ℕ} → (length s ≡ 0 → ⊥) → length s % 2 ≡ 0 → every is_hex s ≡ every is_hex (drop i s) → i ≤ length s → length s ≤ i
-      → true ≡ is_pairs s
-  unfolding is_pairs
-  pairs-right {i} n m e h k =
-      let g : every is_hex s ≡ true = e ∙ every-end is_hex s i (omega arith) in
-      rw (lt-ltb 0 (length s) (omega arith), eq-eqb (length s % 2) 0 m, g)
+  pairs-right n m e = rw (lt-ltb 0 (length s) (omega arith), eq-eqb (length s % 2) 0 m) (each_told is_hex s _ e)
 
   hex-at : {i : ℕ} → is_pairs s ≡ true → i < length s → is_hex (get_or s i 0) ≡ true
   unfolding is_pairs

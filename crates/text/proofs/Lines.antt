@@ -1,6 +1,6 @@
 -- The fields of a line by the places of its spaces. Assumes nothing.
 use Prim.Native.Nat.{ℕ, ◌+◌, ◌-◌, ◌≤◌}
-use mathlib.Core.Path.{◌≡◌, refl, ap, sym, ◌∙◌}
+use mathlib.Core.Path.{◌≡◌, ap, sym, ◌∙◌}
 use mathlib.Core.List.{List, [], ◌∷◌}
 use native.Mathlib.Omega.{arith}
 use lib.ListN.{length, take, drop, length-take, length-drop}
@@ -10,7 +10,7 @@ use Prim.Native.Nat.{◌<◌}
 use Rattle.arena.specs.Parts.{put_part}
 use Rattle.text.specs.declared.inside.Line.TheVariants as line-is
 use Rattle.text.specs.Split.{up_to, split}
-use Rattle.text.specs.Command.{Command, read_fields, read, Heard, heard, taken}
+use Rattle.text.specs.Command.{read_fields, read, Heard, heard, taken}
 use Rattle.text.proofs.Splits.{split_one, split-more}
 
 pub take_count : {n : ℕ} (s : List ℕ) → n ≤ length s → n ≡ length (take n s)

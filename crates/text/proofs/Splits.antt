@@ -6,27 +6,15 @@ use mathlib.Core.List.{List, [], ◌∷◌}
 use native.Mathlib.Numerals.{add-one}
 use native.Mathlib.Omega.{arith}
 use lib.Dec.{eqb}
-use lib.ListN.{length, get_or, take, drop}
-use lib.Seq.{drop-cons, drop-length}
+use Rattle.std.specs.Prelude.{Option, MatchOption, unwrap_or}
+use Rattle.std.specs.List.{AllWithin, HoldsAt}
+use Rattle.std.proofs.lemmas.Iterator.{index_from_first}
+use lib.ListN.{length, take, drop}
 use lib.Seq.{take-length as take_whole}
 use borrow.Author.Tests.{eq-eqb, ne_eqb}
 use Rattle.text.specs.Split.{up_to, behind, split}
 
 module _ (sep : ℕ) where
-  -- the byte at i is the separator, or is not, or there is none
-  pub up-here : (s : List ℕ) (i : ℕ) → i < length s → get_or s i 0 ≡ sep → length (up_to sep (drop i s)) ≡ 0
-  unfolding up_to
-  up-here s i h e = rw (drop-cons s i 0 h, eq-eqb (get_or s i 0) sep e)
-
-  pub up_more : (s : List ℕ) (i : ℕ) → i < length s → (get_or s i 0 ≡ sep → ⊥)
-      → length (up_to sep (drop i s)) ≡ suc (length (up_to sep (drop (i + 1) s)))
-  unfolding up_to
-  up_more s i h e = rw (add-one i, drop-cons s i 0 h, ne_eqb (get_or s i 0) sep e)
-
-  pub up-end : (s : List ℕ) → length (up_to sep (drop (length s) s)) ≡ 0
-  unfolding up_to
-  up-end s = rw drop-length
-
   up-le-step : (t : Bool) (b : ℕ) (us bs : List ℕ) → length us ≤ length bs → length (cond t [] (b ∷ us)) ≤ suc (length bs)
   up-le-step true b us bs h = omega arith
   up-le-step false b us bs h = omega arith
@@ -80,15 +68,22 @@ module _ (sep : ℕ) where
       let n : length (up_to sep s) < length s = omega arith in
       rw (add-one a, e, behind_more s n) (ap (λ (l : List ℕ). l ∷ split sep (drop (suc (length (up_to sep s))) s)) (sym (take-up s)))
 
-module _ (sep : ℕ) (s : List ℕ) {i : ℕ} (e : length (up_to sep s) ≡ i + length (up_to sep (drop i s))) where
-  pub found_here : i < length s → get_or s i 0 ≡ sep → i ≡ length (up_to sep s)
-  found_here h d = omega (arith, up-here sep s i h d)
+  -- the place of the first separator
+  here : (b : ℕ) (bs : List ℕ) → b ≡ sep → length (up_to sep (b ∷ bs)) ≡ 0
+  unfolding up_to
+  here b bs e = rw (eq-eqb b sep e)
 
-  pub found-more : i < length s → (get_or s i 0 ≡ sep → ⊥) → length (up_to sep s) ≡ i + 1 + length (up_to sep (drop (i + 1) s))
-  found-more h d = omega (arith, up_more sep s i h d)
+  further : (b : ℕ) (bs : List ℕ) → (b ≡ sep → ⊥) → length (up_to sep (b ∷ bs)) ≡ length (up_to sep bs) + 1
+  unfolding up_to
+  further b bs e = rw (ne_eqb b sep e) (omega arith)
 
-  pub found_none : i ≤ length s → length s ≤ i → i ≡ length (up_to sep s)
-  found_none h k =
-      let n : i ≡ length s = omega arith in
-      let z : length (up_to sep (drop i s)) ≡ 0 = rw n (up-end sep s) in
-      omega arith
+  pub first_is : (s : List ℕ) (r : Option ℕ)
+      → MatchOption r (AllWithin (λ b. b ≡ sep → ⊥) s 0 (length s))
+      (λ i. (i < length s) × HoldsAt (λ b. b ≡ sep) s i × AllWithin (λ b. b ≡ sep → ⊥) s 0 i)
+      → {n : ℕ} → n ≡ unwrap_or r (length s) → (n ≡ length (up_to sep s)) × (n ≤ length s)
+  unfolding up_to
+  first_is s r m {n} e =
+      let place : length (up_to sep s) ≡ unwrap_or r (length s) =
+      index_from_first (λ bs. length (up_to sep bs)) (λ b. b ≡ sep) (λ b. b ≡ sep → ⊥) refl here further s r m in
+      let g : n ≡ length (up_to sep s) = e ∙ sym place in
+      (g, omega (arith, up_le s))

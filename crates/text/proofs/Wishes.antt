@@ -1,18 +1,16 @@
 -- What a line of one, two and three fields asks for. Assumes nothing.
 use Prim.Native.Nat.{ℕ}
 use mathlib.Core.Path.{◌≡◌, refl, sym, ◌∙◌}
-use mathlib.Core.Bool.{Bool, true, false, not, cond, ◌&&◌}
+use mathlib.Core.Bool.{Bool, true, false, not, cond}
 use mathlib.Core.List.{List, [], ◌∷◌}
 use native.Mathlib.Omega.{arith}
 use lib.ListN.{length}
 use borrow.Author.Tests.{not-true, not-false}
+use Rattle.std.specs.Prelude.{Option, Some, None}
 use Rattle.arena.specs.Parts.{put_part}
 use Rattle.text.specs.declared.inside.Line.TheVariants as line-is
-use Rattle.text.specs.declared.fields.Frame.{Frame}
-use Rattle.text.specs.declared.fields.Frame.TheVariants.{Number, Nothing}
 use Rattle.text.specs.Fields.{same, is_key, key_in, is_frame, number_in}
 use Rattle.text.specs.Command.{read_fields, framed, keyed, Heard, put_word, find_word, del_word, list_word, heard, taken, frame_if}
-use Rattle.text.proofs.Keys.{decide}
 
 module _ (d w : List ℕ) {r : Bool} (e : r ≡ same w list_word) where
   pub is-list : r ≡ true → heard line-is.List d ≡ taken (read_fields (w ∷ [])) d
@@ -48,30 +46,23 @@ module _ (d w f : List ℕ) {k : Bool} (ek : k ≡ is_key f) where
       neither u = rw (← ek, not-false k n, ← e, t, ← g, u)
 
 -- a field that is a frame number, or is not
-module _ (s : List ℕ) {x : Frame} (e : x ≡ frame_if (is_frame s) s) where
-  frame_step : {n : ℕ} (t : Bool) → frame_if t s ≡ Number n → (t ≡ true) × (n ≡ number_in s)
-  frame_step true f = (refl, cc)
-  frame_step false f = let z : ◌≡◌ {A = ℕ} 0 1 = cc in absurd (omega arith)
+frame_step : (t : Bool) {m n : ℕ} → Some n ≡ cond t (Some m) None → (t ≡ true) × (n ≡ m)
+frame_step true f = (refl, cc f)
+frame_step false f = let z : ◌≡◌ {A = ℕ} 0 1 = cc in absurd (omega arith)
 
-  pub frame-told : {n : ℕ} → x ≡ Number n → (is_frame s ≡ true) × (n ≡ number_in s)
-  frame-told f = frame_step (is_frame s) (sym e ∙ f)
+none-step : (t : Bool) (m : ℕ) → None ≡ cond t (Some m) None → t ≡ false
+none-step true m f = let z : ◌≡◌ {A = ℕ} 0 1 = cc in absurd (omega arith)
+none-step false m f = refl
 
-  none-step : (t : Bool) → frame_if t s ≡ Nothing → t ≡ false
-  none-step true f = let z : ◌≡◌ {A = ℕ} 0 1 = cc in absurd (omega arith)
-  none-step false f = refl
-
-  pub no-frame : x ≡ Nothing → is_frame s ≡ false
-  no-frame f = none-step (is_frame s) (sym e ∙ f)
-
-module _ (d k l : List ℕ) {x : Frame} (ex : x ≡ frame_if (is_frame l) l) where
-  pub is_framed : {n frame : ℕ} {d' : List ℕ} → x ≡ Number frame → n ≡ length k → d' ≡ put_part d 0 k
+module _ (d k l : List ℕ) {x : Option ℕ} (ex : x ≡ frame_if (is_frame l) l) where
+  pub is_framed : {n frame : ℕ} {d' : List ℕ} → x ≡ Some frame → n ≡ length k → d' ≡ put_part d 0 k
       → heard (line-is.Put n frame) d' ≡ taken (framed k l) d
   unfolding framed
-  is_framed t len b = let g = frame-told l ex t in rw (g.0, ← g.1, len, b)
+  is_framed t len b = let g = frame_step (is_frame l) (sym t ∙ ex) in rw (g.0, ← g.1, len, b)
 
-  pub not-framed : x ≡ Nothing → heard line-is.Bad d ≡ taken (framed k l) d
+  pub not-framed : x ≡ None → heard line-is.Bad d ≡ taken (framed k l) d
   unfolding framed put_part
-  not-framed t = rw (no-frame l ex t)
+  not-framed t = rw (none-step (is_frame l) (number_in l) (sym t ∙ ex))
 
 module _ (d w f l : List ℕ) {r : Bool} (e : r ≡ same w put_word) where
   pub not-put : not r ≡ true → heard line-is.Bad d ≡ taken (read_fields (w ∷ f ∷ l ∷ [])) d

@@ -1,9 +1,7 @@
 -- What a line asks for.
-use Rattle.std.specs.Prelude.{ℕ, Bool, ◌&&◌, cond, List, [], ◌∷◌, leb, length}
+use Rattle.std.specs.Prelude.{ℕ, Bool, ◌&&◌, cond, List, [], ◌∷◌, leb, length, Option, Some, None}
 use Rattle.text.specs.declared.inside.Line.{Line}
 use Rattle.text.specs.declared.inside.Line.TheVariants as line-is
-use Rattle.text.specs.declared.fields.Frame.{Frame}
-use Rattle.text.specs.declared.fields.Frame.TheVariants.{Number, Nothing}
 use Rattle.arena.specs.Parts.{put_part}
 use Rattle.text.specs.Split.{split}
 use Rattle.text.specs.Fields.{same, is_key, key_in, is_frame, number_in}
@@ -83,5 +81,5 @@ abbrev pub taken : Command → List ℕ → Heard
 taken command buffer = heard (line_of command) (put_part buffer 0 (key_of command))
 
 -- a field as a frame number, where the test holds
-abbrev pub frame_if : Bool → List ℕ → Frame
-frame_if test field = cond test (Number (number_in field)) Nothing
+abbrev pub frame_if : Bool → List ℕ → Option ℕ
+frame_if test field = cond test (Some (number_in field)) None

@@ -4,29 +4,11 @@ ghost use Rattle.arena.specs.Parts.{put_part};
 ghost use Rattle.text.specs.Fields.{same as Fields·same, is_hex, is_pairs, is_key, key_in, pairs, hex_value, is_decimal, is_frame};
 ghost use Rattle.text.specs.Command.{frame_if};
 
-// A frame number, where a field is one.
-#[derive(Clone, Copy)]
-pub(crate) enum Frame {
-    Number(u64),
-    Nothing,
-}
-
 // Whether two slices hold the same bytes.
 pub(crate) fn same(a: &[u8], b: &[u8]) -> bool
     ensures { result ≡ Fields·same a.now b.now }
 {
-    if a.len() != b.len() {
-        return false;
-    }
-    let mut i = 0;
-    // The first i bytes are the same.
-    while i < a.len() {
-        if a[i] != b[i] {
-            return false;
-        }
-        i += 1;
-    }
-    true
+    a == b
 }
 
 // ---- keys
@@ -35,16 +17,7 @@ pub(crate) fn same(a: &[u8], b: &[u8]) -> bool
 fn is_hex(b: u8) -> bool
     ensures { result ≡ is_hex b }
 {
-    if b < b'0' {
-        return false;
-    }
-    if b <= b'9' {
-        return true;
-    }
-    if b < b'a' {
-        return false;
-    }
-    b <= b'f'
+    matches!(b, b'0'..=b'9' | b'a'..=b'f')
 }
 
 // The value of a hex digit.
@@ -62,21 +35,10 @@ fn hex_value(b: u8) -> u8
 fn is_pairs(field: &[u8]) -> bool
     ensures { result ≡ is_pairs field.now }
 {
-    if field.len() == 0 {
+    if field.len() == 0 || field.len() % 2 != 0 {
         return false;
     }
-    if field.len() % 2 != 0 {
-        return false;
-    }
-    let mut i = 0;
-    // The first i bytes are hex digits.
-    while i < field.len() {
-        if !is_hex(field[i]) {
-            return false;
-        }
-        i += 1;
-    }
-    true
+    field.iter().all(|b| is_hex(*b))
 }
 
 // Writes each pair of hex digits as a byte to the front of the buffer, and tells how many.
@@ -85,15 +47,14 @@ fn pairs_to(field: &[u8], key: &mut [u8]) -> usize
     ensures { (result ≡ length (pairs field.now))
         × (key.new ≡ put_part key.old 0 (pairs field.now)) }
 {
-    let mut i = 0;
+    let count = field.len() / 2;
     // The first i pairs are written.
-    while 2 * i + 1 < field.len() {
+    for i in 0..count {
         let high = hex_value(field[2 * i]);
         let low = hex_value(field[2 * i + 1]);
         key[i] = high * 16 + low;
-        i += 1;
     }
-    i
+    count
 }
 
 // Whether a field is a key: `-`, or pairs of hex digits.
@@ -120,43 +81,34 @@ pub(crate) fn key_to(field: &[u8], key: &mut [u8]) -> usize
 
 // ---- frame numbers
 
-// The value of decimal digits, where all are digits and it is below 2^64.
-fn decimal_in(field: &[u8]) -> Frame
+// The value of decimal digits, where all are digits and it is below 2^64. Not by `parse`: that takes a `+` too.
+fn decimal_in(field: &[u8]) -> Option<u64>
     ensures { result ≡ frame_if (is_decimal field.now) field.now }
 {
     let mut n: u64 = 0;
-    let mut i = 0;
-    // The first i bytes are digits, and n is their value.
-    while i < field.len() {
-        let b = field[i];
-        if b < b'0' {
-            return Frame::Nothing;
+    // The bytes so far are digits, and n is their value.
+    for b in field {
+        if *b < b'0' || b'9' < *b {
+            return None;
         }
-        if b'9' < b {
-            return Frame::Nothing;
-        }
-        let d = (b - b'0') as u64;
-        if (u64::MAX - d) / 10 < n {
-            return Frame::Nothing;
-        }
-        n = n * 10 + d;
-        i += 1;
+        let d = (*b - b'0') as u64;
+        n = n.checked_mul(10)?.checked_add(d)?;
     }
-    Frame::Number(n)
+    Some(n)
 }
 
 // The frame number of a field, where it is one: decimal digits without a leading zero, below 2^64.
-pub(crate) fn frame_in(field: &[u8]) -> Frame
+pub(crate) fn frame_in(field: &[u8]) -> Option<u64>
     ensures { result ≡ frame_if (is_frame field.now) field.now }
 {
     if field.len() == 0 {
-        return Frame::Nothing;
+        return None;
     }
     if field.len() == 1 {
         return decimal_in(field);
     }
     if field[0] == b'0' {
-        return Frame::Nothing;
+        return None;
     }
     decimal_in(field)
 }

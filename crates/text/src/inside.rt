@@ -5,7 +5,6 @@ ghost use Rattle.text.specs.Fields.{is_key, key_in};
 ghost use Rattle.text.specs.Command.{read, read_fields, framed, heard, taken};
 
 use crate::fields;
-use fields::Frame;
 
 // What a line asks for; the key stands in the buffer, here is its length.
 #[derive(Clone, Copy)]
@@ -44,7 +43,7 @@ fn read_put(field: &[u8], last: &[u8], key: &mut [u8]) -> Line
     ensures { heard result key.new ≡ taken (framed (key_in field.now) last.now) key.old }
 {
     let number = fields::frame_in(last);
-    if let Frame::Number(frame) = number {
+    if let Some(frame) = number {
         let len = fields::key_to(field, key);
         return Line::Put { len, frame };
     }
@@ -57,10 +56,7 @@ fn read_three(word: &[u8], field: &[u8], last: &[u8], key: &mut [u8]) -> Line
     ensures { heard result key.new
         ≡ taken (read_fields (word.now ∷ field.now ∷ last.now ∷ [])) key.old }
 {
-    if !fields::same(word, b"put") {
-        return Line::Bad;
-    }
-    if !fields::is_key(field) {
+    if !fields::same(word, b"put") || !fields::is_key(field) {
         return Line::Bad;
     }
     read_put(field, last, key)

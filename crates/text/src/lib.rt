@@ -11,13 +11,5 @@ ghost use Rattle.text.specs.Split.{up_to};
 pub fn first(s: &[u8], separator: u8) -> usize
     ensures { (result ≡ length (up_to separator s.now)) × (result ≤ length s.now) }
 {
-    let mut i = 0;
-    // None of the first i bytes is the separator.
-    while i < s.len() {
-        if s[i] == separator {
-            return i;
-        }
-        i += 1;
-    }
-    i
+    s.iter().position(|b| *b == separator).unwrap_or(s.len())
 }

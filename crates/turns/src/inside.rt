@@ -98,13 +98,11 @@ pub fn place(word: u64, width: usize, slot: usize) -> usize
     ensures { result ≡ place_in_use slot (bank_of width word) }
 {
     let size = size_of(word);
-    let mut i: usize = 0;
     // No position before i holds the slot.
-    while i < size {
+    for i in 0..size {
         if nibble(word, i + 1) == slot {
             return i;
         }
-        i += 1;
     }
-    i
+    size
 }

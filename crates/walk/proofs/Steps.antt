@@ -31,7 +31,7 @@ use Rattle.forest.specs.Walk.{height_at, walk_one, walk_layer}
 use Rattle.forest.proofs.InUse as in_use
 use Rattle.forest.proofs.Heights.{height-most}
 use Rattle.forest.proofs.InUse.{seen-ikey}
-use Rattle.edge.specs.declared.Edge.{Edge}
+use Rattle.std.specs.Prelude.{Some, Option as Edge}
 use Rattle.edge.specs.Edges.{left_of, right_of}
 use Rattle.walk.specs.Steps.{told, below, refs_at, cell_of, edge_at}
 
@@ -66,12 +66,12 @@ pub ruleset cellwise = (rules, not-true, not-false, cell-beyond, cell-not, cell-
 
 -- ---- the edge to the right of a child
 
-module _ (nodes : List ℕ) (at : ℕ) (inner : Bool) (high : Edge) where
+module _ (nodes : List ℕ) (at : ℕ) (inner : Bool) (high : Edge ℕ) where
   pub right-own : inner ≡ false → high ≡ edge_at nodes at inner high
   unfolding edge_at
   right-own f = rw f
 
-  pub right-here : inner ≡ true → record { known = true; ikey = get_or nodes at 0 } ≡ edge_at nodes at inner high
+  pub right-here : inner ≡ true → Some (get_or nodes at 0) ≡ edge_at nodes at inner high
   unfolding edge_at
   right-here f = rw f
 
@@ -264,7 +264,7 @@ module _ (nodes : List ℕ) (k : ℕ) (few : count_at nodes k ≤ 15) (fits : no
   unfolding spans
   spans-end lo hi i h = rw (children-end i h)
 
-  spans-from : (lo i : ℕ) (high right : Edge) → i ≤ count_at nodes k
+  spans-from : (lo i : ℕ) (high right : Edge ℕ) → i ≤ count_at nodes k
       → right ≡ edge_at nodes (node_start k + 2 + i) (ltb i (count_at nodes k)) high
       → spans lo (right_of high) (drop i (ikeys_at nodes k)) (drop i (children_at nodes k))
       ≡ (lo, right_of right, get_or nodes (node_start k + 17 + i) 0) ∷ spans (left_of right) (right_of high) (drop (i + 1) (ikeys_at nodes k))
@@ -277,20 +277,20 @@ module _ (nodes : List ℕ) (k : ℕ) (few : count_at nodes k ≤ 15) (fits : no
           ≡ (lo, right_of right, get_or nodes (node_start k + 17 + i) 0) ∷ spans (left_of right) (right_of high) (drop (i + 1) (ikeys_at nodes k))
           (drop (i + 1) (children_at nodes k))
       by (yes l) =
-          let f : right ≡ record { known = true; ikey = get_or nodes (node_start k + 2 + i) 0 } = rw (lt-ltb _ _ l) at e in
+          let f : right ≡ Some (get_or nodes (node_start k + 2 + i) 0) = rw (lt-ltb _ _ l) at e in
           rw (children-from i h, ikeys-from i l, f)
       by (no n) =
           let f : right ≡ high = rw (le-ltb i (count_at nodes k) (omega arith)) at e in
           rw (children-from i h, ikeys-end i (omega arith), children-end (i + 1) (omega arith), f)
 
-module _ (node : ℕ → ℕ → ℕ → Step) (nodes : List ℕ) (k i lo : ℕ) (high : Edge) (seen : Seen) {total : Option Seen}
+module _ (node : ℕ → ℕ → ℕ → Step) (nodes : List ℕ) (k i lo : ℕ) (high : Edge ℕ) (seen : Seen) {total : Option Seen}
     (inv : each (walk_span node) (spans lo (right_of high) (drop i (ikeys_at nodes k)) (drop i (children_at nodes k))) seen ≡ total)
     {g : Bool} (q : g ≡ internode_right nodes k) (y : g ≡ true) (fits : node_start k + 47 ≤ length nodes) where
   pub inter-end : count_at nodes k < i → told true seen ≡ total
   unfolding each told
   inter-end h = rw (spans-end nodes k (count-15 nodes k q y) fits lo (right_of high) i h) at inv
 
-  module _ (h : i ≤ count_at nodes k) {right : Edge} (e : right ≡ edge_at nodes (node_start k + 2 + i) (ltb i (count_at nodes k)) high)
+  module _ (h : i ≤ count_at nodes k) {right : Edge ℕ} (e : right ≡ edge_at nodes (node_start k + 2 + i) (ltb i (count_at nodes k)) high)
       {b : Bool}
       (v : b ≡ ltb lo (right_of right)) where
     span : each (walk_span node) ((lo, right_of right, get_or nodes (node_start k + 17 + i) 0) ∷ spans (left_of right) (right_of high)

@@ -1,5 +1,5 @@
 -- What the steps of the walk say, and what they count on.
-use Rattle.std.specs.Prelude.{ℕ, zero, suc, ◌+◌, ◌-◌, ◌*◌, ◌/◌, ◌≤◌, ◌≡◌, Bool, true, cond, List, length, get_or, take}
+use Rattle.std.specs.Prelude.{ℕ, zero, suc, ◌+◌, ◌-◌, ◌*◌, ◌/◌, ◌≤◌, ◌≡◌, Bool, cond, List, length, get_or, take, Option, Some}
 use Rattle.std.proofs.Math.Option.{none}
 use Rattle.memory_layout.specs.Numbers.{header_words, node_words, cell_words, cell_bytes, most_lent}
 use Rattle.leaf_entries.specs.declared.Entry.{Entry}
@@ -7,7 +7,6 @@ use Rattle.arena.specs.Memory.{Memory}
 use Rattle.forest.specs.Cells.{filed}
 use Rattle.forest.specs.Trees.{Key, Ref, cell_no}
 use Rattle.forest.specs.Walk.{Seen, Step, when, see, walk_ref, walk_layer}
-use Rattle.edge.specs.declared.Edge.{Edge}
 unfoldable pub use Rattle.audit_seen.specs.Seen.{told}
 
 -- the walk of the layers that may follow where so many links were taken: none after 31
@@ -25,8 +24,8 @@ cell_of cells bytes above e seen =
     when (filed cells bytes above e.ikey e.class e.at) (see (cell_no e.at) seen)
 
 -- the edge to the right of a child: the ikey that stands there, or the node's own behind the last
-unfoldable pub edge_at : List ℕ → ℕ → Bool → Edge → Edge
-edge_at nodes at inner high = cond inner (record { known = true; ikey = get_or nodes at 0 }) high
+unfoldable pub edge_at : List ℕ → ℕ → Bool → Option ℕ → Option ℕ
+edge_at nodes at inner high = cond inner (Some (get_or nodes at 0)) high
 
 -- what the walk counts on: right lengths, room for every number, and at most 31 links
 pub record Lent (nodes cells bytes seen above : List ℕ) (links : ℕ) : Type 0 where

@@ -9,7 +9,6 @@ ghost use Rattle.edge.specs.Edges.{left_of, right_of};
 ghost use Rattle.walk.specs.Steps.{edge_at, told, refs_at, cell_of, Lent, LentCells};
 
 use audit_seen::inside::see_number;
-use edge::Edge;
 use leaf::Entry;
 use memory_layout::{CELL_WORDS, CHILDREN, HEADER_WORDS, IKEYS, NODE_WORDS};
 
@@ -32,11 +31,7 @@ pub fn walk_layer(
     ensures above_unchanged { take links above.new ≡ take links above.old }
 {
     let h = shape::inside::height(nodes, nodes.len() / NODE_WORDS, root);
-    let open = Edge {
-        known: false,
-        ikey: 0,
-    };
-    walk_node(nodes, cells, bytes, seen, above, links, h, open, open, root)
+    walk_node(nodes, cells, bytes, seen, above, links, h, None, None, root)
 }
 
 // Walks one node of this height, between two edges: takes its number, and goes on as a leaf or an internode.
@@ -49,8 +44,8 @@ fn walk_node(
     above: &mut [u64],
     links: usize,
     h: usize,
-    low: Edge,
-    high: Edge,
+    low: Option<u64>,
+    high: Option<u64>,
     n: u64,
 ) -> bool
     requires { Lent nodes.now cells.now bytes.now seen.old above.old links }
@@ -81,8 +76,8 @@ fn walk_leaf(
     seen: &mut [u8],
     above: &mut [u64],
     links: usize,
-    low: Edge,
-    high: Edge,
+    low: Option<u64>,
+    high: Option<u64>,
     k: usize,
 ) -> bool
     requires lent { Lent nodes.now cells.now bytes.now seen.old above.old links }
@@ -97,9 +92,8 @@ fn walk_leaf(
     }
     let word = nodes[HEADER_WORDS + k * NODE_WORDS + 1];
     let size = leaf::inside::size_of(word);
-    let mut i: usize = 0;
     // The entries before position i lie between the edges and are walked.
-    while i < size {
+    for i in 0..size {
         let slot = leaf::inside::slot_at(word, i);
         let e = shape::inside::entry_at(nodes, k, slot);
         if !edge::inside::is_within(low, high, e.ikey) {
@@ -108,7 +102,6 @@ fn walk_leaf(
         if !walk_entry(nodes, cells, bytes, seen, above, links, e) {
             return false;
         }
-        i += 1;
     }
     true
 }
@@ -173,8 +166,8 @@ fn walk_internode(
     above: &mut [u64],
     links: usize,
     h: usize,
-    low: Edge,
-    high: Edge,
+    low: Option<u64>,
+    high: Option<u64>,
     k: usize,
 ) -> bool
     requires lent { Lent nodes.now cells.now bytes.now seen.old above.old links }
@@ -191,9 +184,9 @@ fn walk_internode(
     let at = HEADER_WORDS + k * NODE_WORDS;
     let n = nodes[at + 1] as usize;
     let mut left = low;
-    let mut i: usize = 0;
-    // The first i children are walked, and `left` is the edge between them and the next.
-    while i <= n {
+    // The first i children are walked, and `left` is the edge between them and the next. Up to n + 1, and not `..=n`: that one ends in
+    // its last turn, so its proof would say the last child's turn twice.
+    for i in 0..n + 1 {
         let right = right_edge(nodes, at + IKEYS + i, i < n, high);
         if !edge::inside::is_between(left, right) {
             return false;
@@ -203,21 +196,14 @@ fn walk_internode(
             return false;
         }
         left = right;
-        i += 1;
     }
     true
 }
 
 // The edge to the right of a child: the ikey that stands there, or the node's own behind the last.
-fn right_edge(nodes: &[u64], at: usize, inner: bool, high: Edge) -> Edge
+fn right_edge(nodes: &[u64], at: usize, inner: bool, high: Option<u64>) -> Option<u64>
     requires { at < length nodes.now }
     ensures { result ≡ edge_at nodes.now at inner high }
 {
-    if !inner {
-        return high;
-    }
-    Edge {
-        known: true,
-        ikey: nodes[at],
-    }
+    if inner { Some(nodes[at]) } else { high }
 }

@@ -5,45 +5,43 @@ use Prim.Native.Nat.{ℕ, ◌+◌, ◌-◌, ◌≤◌, ◌<◌}
 use native.Mathlib.Omega.{arith}
 use lib.ListN.{length, get_or}
 use borrow.Author.Rules.{rules}
-use Rattle.bank.specs.declared.Verdict.{Verdict}
-use Rattle.bank.specs.declared.Verdict.TheVariants.{Fine}
-use Rattle.bank.specs.Judged.{judged_in}
-use Rattle.wide_bytes.specs.Wide.{wides}
-use Rattle.wide_answers.proofs.Calls.{good}
+use Rattle.wide_answers.proofs.Calls.{Passes, passes, passes_back, good}
 
-module _ (w : ℕ) (bytes : List ℕ) {v : Verdict} (e : v ≡ judged_in (wides w) bytes) (f : v ≡ Fine) (l : length bytes ≡ 25) where
+module _ (w : ℕ) (bytes : List ℕ) (f : Passes w bytes) (l : length bytes ≡ 25) where
   pub width-here : w ≤ 24
-  width-here = (good w bytes e f l).most
+  width-here = (good w bytes f l).most
 
   pub width-below : w < 25
-  width-below = omega (arith, (good w bytes e f l).most)
+  width-below = omega (arith, (good w bytes f l).most)
 
   pub least-here : 1 ≤ w
-  least-here = omega (arith, (good w bytes e f l).least)
+  least-here = omega (arith, (good w bytes f l).least)
 
   pub below-width : {i : ℕ} → i < w → i + 1 < 25
-  below-width h = omega (arith, (good w bytes e f l).most)
+  below-width h = omega (arith, (good w bytes f l).most)
 
   pub place-below : {i : ℕ} → i < w → i < 24
-  place-below h = omega (arith, (good w bytes e f l).most)
+  place-below h = omega (arith, (good w bytes f l).most)
 
   pub size-bytes : get_or bytes 0 0 ≤ w
-  size-bytes = (good w bytes e f l).sized
+  size-bytes = (good w bytes f l).sized
 
   pub size_small : {n : ℕ} → n ≡ get_or bytes 0 0 → n ≤ 24
-  size_small s = omega (arith, (good w bytes e f l).sized, (good w bytes e f l).most)
+  size_small s = omega (arith, (good w bytes f l).sized, (good w bytes f l).most)
 
   pub less-small : {n : ℕ} → n ≡ get_or bytes 0 0 → n - 1 ≤ 24
-  less-small s = omega (arith, (good w bytes e f l).sized, (good w bytes e f l).most)
+  less-small s = omega (arith, (good w bytes f l).sized, (good w bytes f l).most)
 
   pub more-small : {n : ℕ} → n < w → n + 1 ≤ 24
-  more-small h = omega (arith, (good w bytes e f l).most)
+  more-small h = omega (arith, (good w bytes f l).most)
 
   pub next_here : {n i : ℕ} → n ≡ get_or bytes 0 0 → i < n → i + 1 ≤ w
-  next_here s h = omega (arith, (good w bytes e f l).sized)
+  next_here s h = omega (arith, (good w bytes f l).sized)
 
 pub ruleset asks = (
   rules,
+  passes,
+  passes_back,
   width-here,
   width-below,
   least-here,

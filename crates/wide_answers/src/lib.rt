@@ -1,39 +1,30 @@
-// The answers of the calls on wide banks: what the crates above share. An enum holds no array, so a bank stands beside what is said of it.
+// The answers of the calls on wide banks, and the judgement that those that hand a bank back begin with: what the crates above share.
 #![tactic(auto)]
 
+ghost use Rattle.std.specs.Prelude.{◌≡◌};
+ghost use Rattle.wide_answers.specs.Wides.{judged_back};
+
 use refusal::Refusal;
+use wide_bytes::inside::judge;
 
-// Whether a call that hands a bank back was accepted.
+// A refused call: why, and the bank as it was given, or 25 zeros where none was.
 #[derive(Clone, Copy)]
-pub enum Outcome {
-    Accepted,
-    Refused(Refusal),
-}
-
-// A bank that was changed or made; refused, the bank as it was given, or 25 zeros where none was.
-#[derive(Clone, Copy)]
-pub struct Changed {
-    pub outcome: Outcome,
+pub struct Refused {
+    pub why: Refusal,
     pub bank: [u8; 25],
 }
 
-// The slot that an insertion hands out, and how many rest.
+// The bank after an insertion, the slot handed out and how many rest.
 #[derive(Clone, Copy)]
-pub enum Handed {
-    Slot { slot: usize, resting: usize },
-    Refused(Refusal),
-}
-
-// What an insertion tells and the bank after it; refused, the bank as it was given.
-#[derive(Clone, Copy)]
-pub struct Inserted {
-    pub handed: Handed,
+pub struct HandedOut {
     pub bank: [u8; 25],
+    pub slot: usize,
+    pub resting: usize,
 }
 
-// A number told of a bank. The bank goes in by value: refused, the caller still has it as it was.
-#[derive(Clone, Copy)]
-pub enum Told {
-    Number(usize),
-    Refused(Refusal),
+// Whether a bank may be used at its width; refused, the bank goes back as it was given.
+pub fn judged(bank: [u8; 25], width: usize) -> Result<(), Refused>
+    ensures { result ≡ judged_back width bank }
+{
+    judge(bank, width).map_err(|why| Refused { why, bank })
 }

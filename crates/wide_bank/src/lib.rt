@@ -3,7 +3,7 @@
 // by number. All calls and their answers are passed on from the crates below; what they mean, the history of a bank, is proved here.
 #![tactic(auto)]
 
-pub use wide_answers::{Changed, Handed, Inserted, Outcome, Told};
+pub use wide_answers::{HandedOut, Refused};
 pub use wide_insert::insert_from_back;
 pub use wide_made::{empty, from_bytes, make_sorted};
 pub use wide_places::{exchange, rotate};

@@ -43,13 +43,11 @@ good-valid w bytes l p q =
 -- ---- zeros, and lists in front of them
 
 zeros : (xs : List ℕ) → T (all_zero xs) → xs ≡ replicate (length xs) 0
-unfolding all_zero
 zeros [] t = refl
 zeros (x ∷ xs) t =
     ap₂ (λ (y : ℕ) (l : List ℕ). y ∷ l) (eqb→eq x 0 (and_left (eqb x 0) (all_zero xs) t)) (zeros xs (and_right (eqb x 0) (all_zero xs) t))
 
 pub zeros-zero : (n : ℕ) → T (all_zero (replicate n 0))
-unfolding all_zero
 zeros-zero zero = tt
 zeros-zero (suc n) = zeros-zero n
 

@@ -1,18 +1,23 @@
 -- A wide bank by its bytes: what the loops of the judgement keep, and what is valid. Assumes nothing.
 use mathlib.Core.Path.{◌≡◌, sym, ap, ◌∙◌}
-use mathlib.Core.Bool.{true, false, ◌&&◌}
+use mathlib.Core.Bool.{Bool, true, false}
 use mathlib.Core.List.{List, [], ◌∷◌, ◌++◌}
-use Prim.Native.Nat.{ℕ, suc, ◌+◌, ◌*◌, ◌%◌, ◌^◌, ◌≤◌, ◌<◌}
+use Prim.Native.Nat.{ℕ, zero, suc, ◌+◌, ◌*◌, ◌%◌, ◌^◌, ◌≤◌, ◌<◌}
+use mathlib.Core.Logic.{◌⊎◌, inl, inr}
 use native.Mathlib.Omega.{arith}
 use native.Mathlib.Numerals.{add-one}
 use lib.ListN.{length, get_or, take, drop, length-drop}
 use lib.Seq.{take-suc, get_or-drop, drop-cons, drop-length, length-take-le, get_or-take}
 use lib.Bits.{bit_and, bit_or}
-use lib.Dec.{eqb}
-use borrow.Author.Tests.{lt-leb, le-leb, eq-eqb, ne_eqb}
+use borrow.Author.Rules.{rules}
+use borrow.Author.Tests.{lt-leb, le-leb}
+use lib.Dec.{T, eqb, eqb→eq}
+use Rattle.std.specs.Prelude.{◌↔◌, IsTrue, EachIndex}
 use Rattle.bank.specs.Lists.{each_once}
 use Rattle.bank.specs.Bank.{valid}
-use Rattle.wide_bytes.specs.Wide.{all_zero, valid_bytes}
+use Rattle.bank.proofs.Judged.{judging}
+use Rattle.bank.proofs.Tests.{and_left, and_right, and_both, is_true, holds, same_test, equal}
+use Rattle.wide_bytes.specs.Wide.{good_width, all_zero, valid_bytes}
 use Rattle.wide_bytes.proofs.Marks.{Passed, passed-more}
 
 -- ---- the positions, one after the other
@@ -42,32 +47,43 @@ passed-next {slot = slot} k bytes h e m = rw (slots-more k bytes h, ← e) (pass
 
 -- ---- zeros
 
-module _ (k : ℕ) (bytes : List ℕ) where
-  zero-here : k < length bytes → all_zero (drop k bytes) ≡ eqb (get_or bytes k 0) 0 && all_zero (drop (suc k) bytes)
-  unfolding all_zero
-  zero-here h = ap all_zero (drop-cons bytes k 0 h)
+each-zero : (xs : List ℕ) → EachIndex xs (λ k. get_or xs k 0 ≡ 0) → T (all_zero xs)
+each-zero [] f = tt
+each-zero (x ∷ xs) f = and_both (eqb x 0) (all_zero xs) (equal (f 0 (omega arith))) (each-zero xs (λ k h. f (suc k) (omega arith)))
 
-  pub zero-next : {x : ℕ} → k < length bytes → x ≡ get_or bytes k 0 → x ≡ 0 → all_zero (drop k bytes) ≡ all_zero (drop (k + 1) bytes)
-  zero-next h e d = zero-here h ∙ rw (eq-eqb (get_or bytes k 0) 0 (sym e ∙ d), add-one k)
+zero-each : (xs : List ℕ) → T (all_zero xs) → EachIndex xs (λ k. get_or xs k 0 ≡ 0)
+zero-each [] t k h = absurd (omega arith)
+zero-each (x ∷ xs) t zero h = eqb→eq x 0 (and_left (eqb x 0) (all_zero xs) t)
+zero-each (x ∷ xs) t (suc k) h = zero-each xs (and_right (eqb x 0) (all_zero xs) t) k (omega arith)
 
-  pub not-zero : {x : ℕ} → k < length bytes → x ≡ get_or bytes k 0 → (x ≡ 0 → ⊥) → false ≡ all_zero (drop k bytes)
-  not-zero h e d = sym (zero-here h ∙ rw (ne_eqb (get_or bytes k 0) 0 (λ z. d (e ∙ z))))
-
-  pub zeros-done : k ≡ length bytes → true ≡ all_zero (drop k bytes)
-  unfolding all_zero
-  zeros-done h = sym (ap all_zero (ap (λ (n : ℕ). drop n bytes) h ∙ drop-length bytes))
+-- a test that passes exactly where each is zero
+pub zeros-tested : (b : Bool) (xs : List ℕ) → IsTrue b ↔ EachIndex xs (λ k. get_or xs k 0 ≡ 0) → b ≡ all_zero xs
+zeros-tested b xs t =
+    same_test b (all_zero xs) (λ h. each-zero xs (t.0 (is_true b h))) (λ h. holds (t.1 (zero-each xs h)))
 
 -- ---- the judgement
 
 module _ (w : ℕ) (bytes : List ℕ) (l : length bytes ≡ 25) (m : w ≤ 24) where
-  pub valid-size : w < get_or bytes 0 0 → false ≡ valid_bytes w bytes
+  pub valid-size : {b : Bool} → w < get_or bytes 0 0 → b ≡ false → b ≡ valid_bytes w bytes
   unfolding valid_bytes valid
-  valid-size h = rw (slots_length w bytes (omega arith), lt-leb (get_or bytes 0 0) w h)
+  valid-size h e = rw (slots_length w bytes (omega arith), lt-leb (get_or bytes 0 0) w h, e)
 
-  pub valid-not-once : get_or bytes 0 0 ≤ w → each_once (take w (drop 1 bytes)) ≡ false → false ≡ valid_bytes w bytes
+  pub valid-not-once : {b : Bool} → get_or bytes 0 0 ≤ w → b ≡ each_once (take w (drop 1 bytes)) → b ≡ false → b ≡ valid_bytes w bytes
   unfolding valid_bytes valid
-  valid-not-once h e = rw (slots_length w bytes (omega arith), le-leb (get_or bytes 0 0) w h, e)
+  valid-not-once h d e = rw (slots_length w bytes (omega arith), le-leb (get_or bytes 0 0) w h, ← d, e)
 
-  pub valid-rest : get_or bytes 0 0 ≤ w → each_once (take w (drop 1 bytes)) ≡ true → all_zero (drop (w + 1) bytes) ≡ valid_bytes w bytes
+  pub valid-rest : {a b : Bool} → get_or bytes 0 0 ≤ w → a ≡ each_once (take w (drop 1 bytes)) → a ≡ true
+      → b ≡ all_zero (drop (w + 1) bytes) → b ≡ valid_bytes w bytes
   unfolding valid_bytes valid
-  valid-rest h e = rw (slots_length w bytes (omega arith), le-leb (get_or bytes 0 0) w h, e)
+  valid-rest h d e z = rw (slots_length w bytes (omega arith), le-leb (get_or bytes 0 0) w h, ← d, e, z)
+
+-- ---- the width
+
+pub out_of_width : (w : ℕ) → (w < 16) ⊎ ((16 ≤ w) × (24 < w)) → good_width w ≡ false
+out_of_width w (inl h) = rw (lt-leb 16 w h)
+out_of_width w (inr (h, m)) = rw (le-leb 16 w h, lt-leb w 24 m)
+
+pub in_width : (w : ℕ) → 16 ≤ w → w ≤ 24 → good_width w ≡ true
+in_width w h m = rw (le-leb 16 w h, le-leb w 24 m)
+
+pub ruleset judges = (rules, judging, out_of_width, in_width)

@@ -1,5 +1,6 @@
 -- Wide banks: a bank of width 16 to 24 in 25 bytes.
-use Rattle.std.specs.Prelude.{ℕ, ◌+◌, ◌-◌, Bool, true, ◌&&◌, List, [], ◌∷◌, ◌++◌, get_or, take, drop, replicate, leb, eqb}
+use Rattle.std.specs.Prelude.{ℕ, ◌+◌, ◌-◌, Bool, ◌&&◌, List, ◌∷◌, ◌++◌, get_or, take, drop, replicate, leb, eqb}
+use Rattle.std.specs.List.{list_all}
 use Rattle.bank.specs.Bank.{Bank, width, valid}
 use Rattle.bank.specs.Holder.{Holder}
 
@@ -16,9 +17,8 @@ abbrev pub good_width : ℕ → Bool
 good_width w = leb 16 w && leb w 24
 
 -- every byte is 0
-unfoldable pub all_zero : List ℕ → Bool
-all_zero [] = true
-all_zero (x ∷ xs) = eqb x 0 && all_zero xs
+abbrev pub all_zero : List ℕ → Bool
+all_zero xs = list_all (λ x. eqb x 0) xs
 
 -- refusal 2: the size and the positions are a valid bank's, and all bytes past them are 0
 unfoldable pub valid_bytes : ℕ → List ℕ → Bool

@@ -5,7 +5,6 @@ ghost use Rattle.bank.specs.Lists.{each_once};
 ghost use Rattle.bank.specs.Judged.{judged_in};
 ghost use Rattle.wide_bytes.specs.Wide.{all_zero, valid_bytes, wides};
 
-use bank::Verdict;
 use refusal::Refusal;
 
 // Byte k: the size, or the slot at position k-1.
@@ -24,13 +23,11 @@ pub fn each_once(bank: [u8; 25], width: usize) -> bool
 {
     let mut marks: u64 = 0;
     let mut over: u64 = 0;
-    let mut k: usize = 0;
     // The slots of k positions are marked, and laid over each other.
-    while k < width {
+    for k in 0..width {
         let slot = bank[k + 1] as u64;
         over = over | slot;
         marks = marks | (1u64 << (slot & 63));
-        k += 1;
     }
     if 63 < over {
         return false;
@@ -43,15 +40,7 @@ pub fn zero_from(bank: [u8; 25], from: usize) -> bool
     requires { from ≤ 25 }
     ensures { result ≡ all_zero (drop from bank) }
 {
-    let mut k = from;
-    // The bytes passed are 0.
-    while k < 25 {
-        if bank[k] != 0 {
-            return false;
-        }
-        k += 1;
-    }
-    true
+    bank[from..].iter().all(|byte| *byte == 0)
 }
 
 // Whether a wide bank is valid.
@@ -59,27 +48,18 @@ pub fn valid(bank: [u8; 25], width: usize) -> bool
     requires { width ≤ 24 }
     ensures { result ≡ valid_bytes width bank }
 {
-    if width < byte(bank, 0) {
-        return false;
-    }
-    if !each_once(bank, width) {
-        return false;
-    }
-    zero_from(bank, width + 1)
+    byte(bank, 0) <= width && each_once(bank, width) && zero_from(bank, width + 1)
 }
 
 // Whether a wide bank may be used at its width: refusal 1 for the width, 2 for the bank.
-pub fn judge(bank: [u8; 25], width: usize) -> Verdict
+pub fn judge(bank: [u8; 25], width: usize) -> Result<(), Refusal>
     ensures { result ≡ judged_in (wides width) bank }
 {
-    if width < 16 {
-        return Verdict::No(Refusal::Width);
-    }
-    if 24 < width {
-        return Verdict::No(Refusal::Width);
+    if width < 16 || 24 < width {
+        return Err(Refusal::Width);
     }
     if !valid(bank, width) {
-        return Verdict::No(Refusal::Word);
+        return Err(Refusal::Word);
     }
-    Verdict::Fine
+    Ok(())
 }

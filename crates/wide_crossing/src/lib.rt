@@ -5,27 +5,26 @@ ghost use Rattle.std.specs.Prelude.{[], ◌∷◌, ◌++◌};
 ghost use Rattle.wide_answers.specs.Answers.{said_changed, said_inserted, said_told};
 ghost use Rattle.crossing.specs.Crossing.{Crossed};
 
-use wide_answers::{Changed, Handed, Inserted, Outcome, Told};
+use refusal::Refusal;
+use wide_answers::{HandedOut, Refused};
 
 // Writes a bank that was changed or made and returns 0; refused, writes nothing and returns the number.
-pub fn give_changed(answer: Changed, bank: &mut [u8; 25]) -> u64
+pub fn give_changed(answer: Result<[u8; 25], Refused>, bank: &mut [u8; 25]) -> u64
     ensures { Crossed (said_changed answer) result bank.old bank.new }
 {
-    let new = answer.bank;
-    let outcome = answer.outcome;
-    match outcome {
-        Outcome::Accepted => {
+    match answer {
+        Ok(new) => {
             *bank = new;
             0
         }
-        Outcome::Refused(why) => refusal::number(why),
+        Err(refused) => refusal::number(refused.why),
     }
 }
 
 // Writes the bank after an insertion, the slot handed out and how many rest, and returns 0; refused, writes nothing and returns the
 // number.
 pub fn give_inserted(
-    answer: Inserted,
+    answer: Result<HandedOut, Refused>,
     bank: &mut [u8; 25],
     slot: &mut usize,
     resting: &mut usize,
@@ -34,31 +33,27 @@ pub fn give_inserted(
         (bank.old ++ slot.old ∷ resting.old ∷ [])
         (bank.new ++ slot.new ∷ resting.new ∷ []) }
 {
-    let next = answer.bank;
-    let handed = answer.handed;
-    match handed {
-        Handed::Slot {
-            slot: taken,
-            resting: left,
-        } => {
+    match answer {
+        Ok(out) => {
+            let next = out.bank;
             *bank = next;
-            *slot = taken;
-            *resting = left;
+            *slot = out.slot;
+            *resting = out.resting;
             0
         }
-        Handed::Refused(why) => refusal::number(why),
+        Err(not_inserted) => refusal::number(not_inserted.why),
     }
 }
 
 // Writes a number told of a bank, whichever it is, and returns 0; refused, writes nothing and returns the number.
-pub fn give_told(answer: Told, told: &mut usize) -> u64
+pub fn give_told(answer: Result<usize, Refusal>, told: &mut usize) -> u64
     ensures { Crossed (said_told [] answer) result (told.old ∷ []) (told.new ∷ []) }
 {
     match answer {
-        Told::Number(number) => {
+        Ok(number) => {
             *told = number;
             0
         }
-        Told::Refused(why) => refusal::number(why),
+        Err(why) => refusal::number(why),
     }
 }

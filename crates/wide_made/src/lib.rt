@@ -7,78 +7,41 @@ ghost use Rattle.bank.specs.Calls.{from_value};
 ghost use Rattle.wide_answers.specs.Wides.{changed, made_sorted, made_empty};
 ghost use Rattle.wide_answers.specs.Answers.{said_changed};
 
-use bank::Verdict;
 use refusal::Refusal;
-use wide_answers::{Changed, Outcome};
-use wide_bytes::inside::judge;
+use wide_answers::{Refused, judged};
 use wide_moves::inside;
 
 // The bank with no slot in use: slot 0 at the back goes out first.
-pub fn empty(width: usize) -> Changed
+pub fn empty(width: usize) -> Result<[u8; 25], Refused>
     ensures { said_changed result ≡ made_empty width }
 {
-    let none = [0u8; 25];
-    if width < 16 {
-        return Changed {
-            outcome: Outcome::Refused(Refusal::Width),
-            bank: none,
-        };
-    }
-    if 24 < width {
-        return Changed {
-            outcome: Outcome::Refused(Refusal::Width),
-            bank: none,
-        };
-    }
-    let bank = inside::sorted(width, 0);
-    Changed {
-        outcome: Outcome::Accepted,
-        bank,
-    }
+    make_sorted(width, 0)
 }
 
 // The bank with slots 0 to n-1 in use, in order.
-pub fn make_sorted(width: usize, n: usize) -> Changed
+pub fn make_sorted(width: usize, n: usize) -> Result<[u8; 25], Refused>
     ensures { said_changed result ≡ made_sorted width n }
 {
-    let none = [0u8; 25];
-    if width < 16 {
-        return Changed {
-            outcome: Outcome::Refused(Refusal::Width),
-            bank: none,
-        };
-    }
-    if 24 < width {
-        return Changed {
-            outcome: Outcome::Refused(Refusal::Width),
-            bank: none,
-        };
+    let bank = [0u8; 25];
+    if width < 16 || 24 < width {
+        return Err(Refused {
+            why: Refusal::Width,
+            bank,
+        });
     }
     if width < n {
-        return Changed {
-            outcome: Outcome::Refused(Refusal::Position),
-            bank: none,
-        };
+        return Err(Refused {
+            why: Refusal::Position,
+            bank,
+        });
     }
-    let bank = inside::sorted(width, n);
-    Changed {
-        outcome: Outcome::Accepted,
-        bank,
-    }
+    Ok(inside::sorted(width, n))
 }
 
 // A bank from outside, taken in as it is where it is valid at this width.
-pub fn from_bytes(bank: [u8; 25], width: usize) -> Changed
+pub fn from_bytes(bank: [u8; 25], width: usize) -> Result<[u8; 25], Refused>
     ensures { said_changed result ≡ changed width bank from_value }
 {
-    if let Verdict::No(why) = judge(bank, width) {
-        return Changed {
-            outcome: Outcome::Refused(why),
-            bank,
-        };
-    }
-    Changed {
-        outcome: Outcome::Accepted,
-        bank,
-    }
+    judged(bank, width)?;
+    Ok(bank)
 }

@@ -1,4 +1,4 @@
--- What the loops of the moves keep, and what they make. Assumes nothing.
+-- What the moves make, and what their loops keep. Assumes nothing.
 use mathlib.Core.Path.{◌≡◌, sym, ap, ap₂, ◌∙◌}
 use mathlib.Core.List.{List, [], ◌∷◌, ◌++◌, append_assoc}
 use Prim.Native.Nat.{ℕ, zero, suc, ◌+◌, ◌-◌, ◌≤◌, ◌<◌}
@@ -6,7 +6,7 @@ use native.Mathlib.Omega.{arith}
 use native.Mathlib.Numerals.{add-one}
 use native.Mathlib.Nat.{suc-sub-suc}
 use lib.ListN.{length, get_or, take, drop, set, replicate, length-drop}
-use lib.Seq.{get_or-drop, drop-drop, length-take-le, get_or-take, take_all, paste, paste-zero, paste-suc, take-paste, drop-paste}
+use lib.Seq.{drop-drop, length-take-le, get_or-take, take_all, paste, paste-zero, paste-suc, take-paste, drop-paste}
 use Rattle.bank.specs.Lists.{turned, part, listed}
 use Rattle.bank.specs.Bank.{place_in_use, sorted_at, sorted}
 use Rattle.bank.proofs.Counts.{place_at, place_none}
@@ -15,11 +15,6 @@ use Rattle.wide_bytes.specs.Wide.{bank_of, bytes_of}
 use Rattle.wide_bytes.proofs.Judging.{slots_length, slot-at}
 
 -- ---- copies, and two of them that turn positions
-
-pub paste_more : (d : List ℕ) (p : ℕ) (s : List ℕ) (at i : ℕ) → p + i < length d → at + i < length s
-    → set (paste d p (drop at s) i) (p + i) (get_or s (at + i) 0) ≡ paste d p (drop at s) (i + 1)
-paste_more d p s at i h l =
-    rw (add-one i, ← get_or-drop at s i 0) (paste-suc d p (drop at s) i 0 h (simp length-drop (omega arith)))
 
 -- two copies turn the positions
 pub turned-pasted : (a b c : ℕ) (ps : List ℕ) → a ≤ b → b ≤ c → c ≤ length ps

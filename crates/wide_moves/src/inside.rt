@@ -12,12 +12,7 @@ pub fn copy(to: [u8; 25], p: usize, from: [u8; 25], at: usize, count: usize) -> 
     ensures { result ≡ paste to p (drop at from) count }
 {
     let mut out = to;
-    let mut i: usize = 0;
-    // i bytes are copied.
-    while i < count {
-        out[p + i] = from[at + i];
-        i += 1;
-    }
+    out[p..p + count].copy_from_slice(&from[at..at + count]);
     out
 }
 
@@ -37,11 +32,8 @@ pub fn swap(bank: [u8; 25], i: usize, j: usize) -> [u8; 25]
     requires { (i < 24) × (j < 24) }
     ensures { result ≡ swapped (i + 1) (j + 1) bank }
 {
-    let first = bank[i + 1];
-    let second = bank[j + 1];
     let mut out = bank;
-    out[i + 1] = second;
-    out[j + 1] = first;
+    out.swap(i + 1, j + 1);
     out
 }
 
@@ -51,15 +43,13 @@ pub fn place(bank: [u8; 25], width: usize, slot: usize) -> usize
     ensures { result ≡ place_in_use slot (bank_of width bank) }
 {
     let size = bank[0] as usize;
-    let mut i: usize = 0;
     // No position before i holds the slot.
-    while i < size {
+    for i in 0..size {
         if bank[i + 1] as usize == slot {
             return i;
         }
-        i += 1;
     }
-    i
+    size
 }
 
 // The slot at a position of the sorted bank with n slots in use.
@@ -79,11 +69,9 @@ pub fn sorted(width: usize, n: usize) -> [u8; 25]
     ensures { result ≡ bytes_of (sorted width n) }
 {
     let mut out = [0u8; 25];
-    let mut k: usize = 0;
     // k positions stand in place.
-    while k < width {
+    for k in 0..width {
         out[1 + k] = sorted_at(width, n, k) as u8;
-        k += 1;
     }
     out[0] = n as u8;
     out

@@ -7,67 +7,35 @@ ghost use Rattle.bank.specs.Calls.{exchange, rotate};
 ghost use Rattle.wide_answers.specs.Wides.{changed};
 ghost use Rattle.wide_answers.specs.Answers.{said_changed};
 
-use bank::Verdict;
 use refusal::Refusal;
-use wide_answers::{Changed, Outcome};
-use wide_bytes::inside::{byte, judge};
+use wide_answers::{Refused, judged};
+use wide_bytes::inside::byte;
 use wide_moves::inside;
 
 // Two positions change places.
-pub fn exchange(bank: [u8; 25], width: usize, i: usize, j: usize) -> Changed
+pub fn exchange(bank: [u8; 25], width: usize, i: usize, j: usize) -> Result<[u8; 25], Refused>
     ensures { said_changed result ≡ changed width bank (exchange i j) }
 {
-    if let Verdict::No(why) = judge(bank, width) {
-        return Changed {
-            outcome: Outcome::Refused(why),
+    judged(bank, width)?;
+    if width <= i || width <= j {
+        return Err(Refused {
+            why: Refusal::Position,
             bank,
-        };
+        });
     }
-    if width <= i {
-        return Changed {
-            outcome: Outcome::Refused(Refusal::Position),
-            bank,
-        };
-    }
-    if width <= j {
-        return Changed {
-            outcome: Outcome::Refused(Refusal::Position),
-            bank,
-        };
-    }
-    let next = inside::swap(bank, i, j);
-    Changed {
-        outcome: Outcome::Accepted,
-        bank: next,
-    }
+    Ok(inside::swap(bank, i, j))
 }
 
 // Positions i to width-1 become old j to width-1, then old i to j-1.
-pub fn rotate(bank: [u8; 25], width: usize, i: usize, j: usize) -> Changed
+pub fn rotate(bank: [u8; 25], width: usize, i: usize, j: usize) -> Result<[u8; 25], Refused>
     ensures { said_changed result ≡ changed width bank (rotate i j) }
 {
-    if let Verdict::No(why) = judge(bank, width) {
-        return Changed {
-            outcome: Outcome::Refused(why),
+    judged(bank, width)?;
+    if j < i || width < j {
+        return Err(Refused {
+            why: Refusal::Position,
             bank,
-        };
+        });
     }
-    if j < i {
-        return Changed {
-            outcome: Outcome::Refused(Refusal::Position),
-            bank,
-        };
-    }
-    if width < j {
-        return Changed {
-            outcome: Outcome::Refused(Refusal::Position),
-            bank,
-        };
-    }
-    let size = byte(bank, 0);
-    let next = inside::moved(bank, i, j, width, size);
-    Changed {
-        outcome: Outcome::Accepted,
-        bank: next,
-    }
+    Ok(inside::moved(bank, i, j, width, byte(bank, 0)))
 }

@@ -7,40 +7,32 @@ ghost use Rattle.bank.specs.Calls.{size, get, back};
 ghost use Rattle.wide_answers.specs.Wides.{asked};
 ghost use Rattle.wide_answers.specs.Answers.{said_told};
 
-use bank::Verdict;
 use refusal::Refusal;
-use wide_answers::Told;
 use wide_bytes::inside::{byte, judge};
 
 // How many slots are in use.
-pub fn size(bank: [u8; 25], width: usize) -> Told
+pub fn size(bank: [u8; 25], width: usize) -> Result<usize, Refusal>
     ensures { said_told bank result ≡ asked width bank size }
 {
-    if let Verdict::No(why) = judge(bank, width) {
-        return Told::Refused(why);
-    }
-    Told::Number(byte(bank, 0))
+    judge(bank, width)?;
+    Ok(byte(bank, 0))
 }
 
 // The slot at a position, in use or free.
-pub fn get(bank: [u8; 25], width: usize, i: usize) -> Told
+pub fn get(bank: [u8; 25], width: usize, i: usize) -> Result<usize, Refusal>
     ensures { said_told bank result ≡ asked width bank (get i) }
 {
-    if let Verdict::No(why) = judge(bank, width) {
-        return Told::Refused(why);
-    }
+    judge(bank, width)?;
     if width <= i {
-        return Told::Refused(Refusal::Position);
+        return Err(Refusal::Position);
     }
-    Told::Number(byte(bank, i + 1))
+    Ok(byte(bank, i + 1))
 }
 
 // The slot at the last position.
-pub fn back(bank: [u8; 25], width: usize) -> Told
+pub fn back(bank: [u8; 25], width: usize) -> Result<usize, Refusal>
     ensures { said_told bank result ≡ asked width bank back }
 {
-    if let Verdict::No(why) = judge(bank, width) {
-        return Told::Refused(why);
-    }
-    Told::Number(byte(bank, width))
+    judge(bank, width)?;
+    Ok(byte(bank, width))
 }

@@ -7,111 +7,74 @@ ghost use Rattle.bank.specs.Calls.{insert_first_free, remove, remove_to_back, re
 ghost use Rattle.wide_answers.specs.Wides.{changed};
 ghost use Rattle.wide_answers.specs.Answers.{said_changed};
 
-use bank::Verdict;
 use refusal::Refusal;
-use wide_answers::{Changed, Outcome};
-use wide_bytes::inside::{byte, judge};
+use wide_answers::{Refused, judged};
+use wide_bytes::inside::byte;
 use wide_moves::inside;
 
 // The slot at position i rests behind every other free one.
-pub fn remove(bank: [u8; 25], width: usize, i: usize) -> Changed
+pub fn remove(bank: [u8; 25], width: usize, i: usize) -> Result<[u8; 25], Refused>
     ensures { said_changed result ≡ changed width bank (remove i) }
 {
-    if let Verdict::No(why) = judge(bank, width) {
-        return Changed {
-            outcome: Outcome::Refused(why),
-            bank,
-        };
-    }
+    judged(bank, width)?;
     let size = byte(bank, 0);
     if size <= i {
-        return Changed {
-            outcome: Outcome::Refused(Refusal::Position),
+        return Err(Refused {
+            why: Refusal::Position,
             bank,
-        };
+        });
     }
-    let next = inside::moved(bank, i, i + 1, size, size - 1);
-    Changed {
-        outcome: Outcome::Accepted,
-        bank: next,
-    }
+    Ok(inside::moved(bank, i, i + 1, size, size - 1))
 }
 
 // The slot at position i goes to the back, where the next insertion finds it: the opposite of an insertion.
-pub fn remove_to_back(bank: [u8; 25], width: usize, i: usize) -> Changed
+pub fn remove_to_back(bank: [u8; 25], width: usize, i: usize) -> Result<[u8; 25], Refused>
     ensures { said_changed result ≡ changed width bank (remove_to_back i) }
 {
-    if let Verdict::No(why) = judge(bank, width) {
-        return Changed {
-            outcome: Outcome::Refused(why),
-            bank,
-        };
-    }
+    judged(bank, width)?;
     let size = byte(bank, 0);
     if size <= i {
-        return Changed {
-            outcome: Outcome::Refused(Refusal::Position),
+        return Err(Refused {
+            why: Refusal::Position,
             bank,
-        };
+        });
     }
-    let next = inside::moved(bank, i, i + 1, width, size - 1);
-    Changed {
-        outcome: Outcome::Accepted,
-        bank: next,
-    }
+    Ok(inside::moved(bank, i, i + 1, width, size - 1))
 }
 
 // The slot, wherever it is in use, rests behind every other free one.
-pub fn remove_slot(bank: [u8; 25], width: usize, slot: usize) -> Changed
+pub fn remove_slot(bank: [u8; 25], width: usize, slot: usize) -> Result<[u8; 25], Refused>
     ensures { said_changed result ≡ changed width bank (remove_slot slot) }
 {
-    if let Verdict::No(why) = judge(bank, width) {
-        return Changed {
-            outcome: Outcome::Refused(why),
-            bank,
-        };
-    }
+    judged(bank, width)?;
     let size = byte(bank, 0);
     let at = inside::place(bank, width, slot);
     if size <= at {
-        return Changed {
-            outcome: Outcome::Refused(Refusal::Unused),
+        return Err(Refused {
+            why: Refusal::Unused,
             bank,
-        };
+        });
     }
-    let next = inside::moved(bank, at, at + 1, size, size - 1);
-    Changed {
-        outcome: Outcome::Accepted,
-        bank: next,
-    }
+    Ok(inside::moved(bank, at, at + 1, size, size - 1))
 }
 
 // The first free slot, which is the one removed last, is put to use at position i: the opposite of a removal there.
-pub fn insert_first_free(bank: [u8; 25], width: usize, i: usize) -> Changed
+pub fn insert_first_free(bank: [u8; 25], width: usize, i: usize) -> Result<[u8; 25], Refused>
     ensures { said_changed result ≡ changed width bank (insert_first_free i) }
 {
-    if let Verdict::No(why) = judge(bank, width) {
-        return Changed {
-            outcome: Outcome::Refused(why),
-            bank,
-        };
-    }
+    judged(bank, width)?;
     let size = byte(bank, 0);
     if size < i {
-        return Changed {
-            outcome: Outcome::Refused(Refusal::Position),
+        return Err(Refused {
+            why: Refusal::Position,
             bank,
-        };
+        });
     }
     if width <= size {
-        return Changed {
-            outcome: Outcome::Refused(Refusal::Full),
+        return Err(Refused {
+            why: Refusal::Full,
             bank,
-        };
+        });
     }
-    let next = inside::moved(bank, i, size, size + 1, size + 1);
-    Changed {
-        outcome: Outcome::Accepted,
-        bank: next,
-    }
+    Ok(inside::moved(bank, i, size, size + 1, size + 1))
 }

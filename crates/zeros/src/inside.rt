@@ -10,11 +10,9 @@ pub fn words_zero(words: &[u64], at: usize, n: usize) -> bool
     ensures { result ≡ all_zero (part words.now at n) }
 {
     let mut found: u64 = 0;
-    let mut i = 0;
     // `found` is the first i words laid over each other.
-    while i < n {
-        found = found | words[at + i];
-        i += 1;
+    for i in 0..n {
+        found |= words[at + i];
     }
     found == 0
 }
@@ -25,11 +23,9 @@ pub fn bytes_zero(bytes: &[u8], at: usize, n: usize) -> bool
     ensures { result ≡ all_zero (part bytes.now at n) }
 {
     let mut found: u8 = 0;
-    let mut i = 0;
     // `found` is the first i bytes laid over each other.
-    while i < n {
-        found = found | bytes[at + i];
-        i += 1;
+    for i in 0..n {
+        found |= bytes[at + i];
     }
     found == 0
 }

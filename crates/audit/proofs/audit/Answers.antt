@@ -2,8 +2,8 @@
 use Rattle.audit.proofs.Judging.{says}
 use Rattle.audit.proofs.audit.Goals as goal
 
-pub returns-then-is_tree : goal.returns-then-is_tree
-returns-then-is_tree c = search says
+pub returns-then-not-is_tree : goal.returns-then-not-is_tree
+returns-then-not-is_tree c = search says
 
 pub returns : goal.returns
 returns c = search says

@@ -2,8 +2,8 @@
 use Rattle.crossing.proofs.Crosses.{changed-word, changed-refused}
 use Rattle.crossing.proofs.give_changed.Goals as goal
 
-pub returns-in-Word : goal.returns-in-Word
-returns-in-Word c = search changed-word
+pub returns-in-Ok : goal.returns-in-Ok
+returns-in-Ok c = search changed-word
 
-pub returns-in-Refused : goal.returns-in-Refused
-returns-in-Refused c = search changed-refused
+pub returns-in-Err : goal.returns-in-Err
+returns-in-Err c = search changed-refused

@@ -2,8 +2,8 @@
 use Rattle.crossing.proofs.Crosses.{made_word, made-refused}
 use Rattle.crossing.proofs.give_made.Goals as goal
 
-pub returns-in-Word : goal.returns-in-Word
-returns-in-Word c = search made_word
+pub returns-in-Ok : goal.returns-in-Ok
+returns-in-Ok c = search made_word
 
-pub returns-in-Refused : goal.returns-in-Refused
-returns-in-Refused c = search made-refused
+pub returns-in-Err : goal.returns-in-Err
+returns-in-Err c = search made-refused

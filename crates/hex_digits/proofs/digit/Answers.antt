@@ -2,17 +2,17 @@
 use Rattle.hex_digits.proofs.Digits.{before-0, to-9, before-a, to-f, past-f}
 use Rattle.hex_digits.proofs.digit.Goals as goal
 
-pub returns-then-byte-lt48 : goal.returns-then-byte-lt48
-returns-then-byte-lt48 c = search before-0
+pub returns-in-48-to-57 : goal.returns-in-48-to-57
+returns-in-48-to-57 c = search to-9
 
-pub returns-then-byte-le57 : goal.returns-then-byte-le57
-returns-then-byte-le57 c = search to-9
+pub returns-in-97-to-102 : goal.returns-in-97-to-102
+returns-in-97-to-102 c = search to-f
 
-pub returns-then-byte-lt97 : goal.returns-then-byte-lt97
-returns-then-byte-lt97 c = search before-a
+pub returns-in_default : goal.returns-in_default
+returns-in_default c = search before-0
 
-pub returns-then-byte-le102 : goal.returns-then-byte-le102
-returns-then-byte-le102 c = search to-f
+pub returns-in_default-2 : goal.returns-in_default-2
+returns-in_default-2 c = search before-a
 
-pub returns : goal.returns
-returns c = search past-f
+pub returns-in_default-3 : goal.returns-in_default-3
+returns-in_default-3 c = search past-f

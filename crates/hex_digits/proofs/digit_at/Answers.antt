@@ -1,9 +1,11 @@
 -- `digit_at` meets its contract: what is behind the end counts as 0.
 use Rattle.hex_digits.proofs.Digits.{starts-past, goes-past}
 use Rattle.hex_digits.proofs.digit_at.Goals as goal
+use Rattle.hex_digits.proofs.digit_at.Goals.{else-from-text-via-then-from-text+else-k-text, else-from-text-via-else-from-text}
 
-pub returns-then-text-from : goal.returns-then-text-from
-returns-then-text-from c = search starts-past
-
-pub returns-then-text-from-2 : goal.returns-then-text-from-2
-returns-then-text-from-2 c = search goes-past
+pub returns-else-from-text : goal.returns-else-from-text
+returns-else-from-text c =
+    elim c.else-from-text.branch [
+      | else-from-text-via-then-from-text+else-k-text w ↦ search goes-past
+      | else-from-text-via-else-from-text w ↦ search starts-past
+    ]

@@ -15,7 +15,7 @@ pub overflow_add-value : goal.overflow_add-value
 overflow_add-value c = search one-more-room
 
 pub loop-k-preserved : goal.loop-k-preserved
-loop-k-preserved c = (search rules, search one_more)
+loop-k-preserved c = search one_more
 
 pub returns : goal.returns
 returns c = (search all_read, search all-below)

@@ -1,10 +1,7 @@
 -- The digits passed spell the value.
-use Rattle.std.proofs.Common.{◌≡◌, ◌-◌, ◌≤◌}
+use Rattle.std.proofs.Common.{◌≡◌}
 use Rattle.hex_digits.specs.Digits.{hex_at}
 use Rattle.hex_digits.proofs.number.Given as goal
 
 abbrev pub invariant-loop-k : goal.invariant-loop-k
-invariant-loop-k l = (l.k ≤ l.digits) × (l.value ≡ hex_at l.text l.from l.k)
-
-abbrev pub decreases-loop-k : goal.decreases-loop-k
-decreases-loop-k l = l.digits - l.k
+invariant-loop-k l = l.value ≡ hex_at l.text l.from l.k

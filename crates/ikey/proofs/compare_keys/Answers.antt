@@ -5,8 +5,5 @@ use Rattle.ikey.proofs.compare_keys.Goals as goal
 pub returns-then-a-gt-LONGEST : goal.returns-then-a-gt-LONGEST
 returns-then-a-gt-LONGEST c = search whole
 
-pub returns-then-b-gt-LONGEST : goal.returns-then-b-gt-LONGEST
-returns-then-b-gt-LONGEST c = search whole
-
 pub returns : goal.returns
 returns c = search whole

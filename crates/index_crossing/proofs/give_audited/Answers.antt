@@ -2,8 +2,8 @@
 use Rattle.index_crossing.proofs.Crosses.{audited-tree, audited-refused}
 use Rattle.index_crossing.proofs.give_audited.Goals as goal
 
-pub returns-in-Tree : goal.returns-in-Tree
-returns-in-Tree c = search audited-tree
+pub returns-in-Ok : goal.returns-in-Ok
+returns-in-Ok c = search audited-tree
 
-pub returns-in-Refused : goal.returns-in-Refused
-returns-in-Refused c = search audited-refused
+pub returns-in-Err : goal.returns-in-Err
+returns-in-Err c = search audited-refused

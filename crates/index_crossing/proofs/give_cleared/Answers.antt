@@ -2,8 +2,8 @@
 use Rattle.index_crossing.proofs.Crosses.{cleared-done, cleared-refused}
 use Rattle.index_crossing.proofs.give_cleared.Goals as goal
 
-pub returns-in-Done : goal.returns-in-Done
-returns-in-Done c = search cleared-done
+pub returns-in-Ok : goal.returns-in-Ok
+returns-in-Ok c = search cleared-done
 
-pub returns-in-Refused : goal.returns-in-Refused
-returns-in-Refused c = search cleared-refused
+pub returns-in-Err : goal.returns-in-Err
+returns-in-Err c = search cleared-refused

@@ -2,8 +2,8 @@
 use Rattle.index_crossing.proofs.Crosses.{counted-entries, counted-refused}
 use Rattle.index_crossing.proofs.give_counted.Goals as goal
 
-pub returns-in-Entries : goal.returns-in-Entries
-returns-in-Entries c = search counted-entries
+pub returns-in-Ok : goal.returns-in-Ok
+returns-in-Ok c = search counted-entries
 
-pub returns-in-Refused : goal.returns-in-Refused
-returns-in-Refused c = search counted-refused
+pub returns-in-Err : goal.returns-in-Err
+returns-in-Err c = search counted-refused

@@ -2,8 +2,8 @@
 use Rattle.index_crossing.proofs.Crosses.{found-frame, found-refused}
 use Rattle.index_crossing.proofs.give_found.Goals as goal
 
-pub returns-in-Frame : goal.returns-in-Frame
-returns-in-Frame c = search found-frame
+pub returns-in-Ok : goal.returns-in-Ok
+returns-in-Ok c = search found-frame
 
-pub returns-in-Refused : goal.returns-in-Refused
-returns-in-Refused c = search found-refused
+pub returns-in-Err : goal.returns-in-Err
+returns-in-Err c = search found-refused

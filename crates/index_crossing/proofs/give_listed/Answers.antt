@@ -2,8 +2,8 @@
 use Rattle.index_crossing.proofs.Crosses.{listed-entry, listed-refused}
 use Rattle.index_crossing.proofs.give_listed.Goals as goal
 
-pub returns-in-Entry : goal.returns-in-Entry
-returns-in-Entry c = search listed-entry
+pub returns-in-Ok : goal.returns-in-Ok
+returns-in-Ok c = search listed-entry
 
-pub returns-in-Refused : goal.returns-in-Refused
-returns-in-Refused c = search listed-refused
+pub returns-in-Err : goal.returns-in-Err
+returns-in-Err c = search listed-refused

@@ -2,8 +2,8 @@
 use Rattle.index_crossing.proofs.Crosses.{measured-fit, measured-refused}
 use Rattle.index_crossing.proofs.give_measured.Goals as goal
 
-pub returns-in-Fit : goal.returns-in-Fit
-returns-in-Fit c = search measured-fit
+pub returns-in-Ok : goal.returns-in-Ok
+returns-in-Ok c = search measured-fit
 
-pub returns-in-Refused : goal.returns-in-Refused
-returns-in-Refused c = search measured-refused
+pub returns-in-Err : goal.returns-in-Err
+returns-in-Err c = search measured-refused

@@ -2,8 +2,8 @@
 use Rattle.index_crossing.proofs.Crosses.{removed-done, removed-refused}
 use Rattle.index_crossing.proofs.give_removed.Goals as goal
 
-pub returns-in-Done : goal.returns-in-Done
-returns-in-Done c = search removed-done
+pub returns-in-Ok : goal.returns-in-Ok
+returns-in-Ok c = search removed-done
 
-pub returns-in-Refused : goal.returns-in-Refused
-returns-in-Refused c = search removed-refused
+pub returns-in-Err : goal.returns-in-Err
+returns-in-Err c = search removed-refused

@@ -1,12 +1,15 @@
 -- `key_moves::shift` meets its contract. Assumes nothing.
-use Rattle.key_layer.proofs.Calls.{moved-within, moved-over, moved-unfit}
+use Rattle.std.proofs.lemmas.Result.{err_from_is_err_and}
+use Rattle.key_layer.proofs.Calls.{judged-fits, moved-refused, moved-within, moved-over}
 use Rattle.key_moves.proofs.shift.Goals as goal
 
-pub returns-then-left-gt8 : goal.returns-then-left-gt8
-returns-then-left-gt8 c = search moved-within
+pub returns-in_err-judge : goal.returns-in_err-judge
+returns-in_err-judge c =
+    let p = err_from_is_err_and c.from_residual.result c.from_residual.ensures.1 in
+    rw (p.1, p.2) (moved-refused _ _ _ _ _ _ _ _ c.in_err-judge.ensures)
 
-pub returns-then-is_fit : goal.returns-then-is_fit
-returns-then-is_fit c = search moved-over
+pub returns-then-left-gt8 : goal.returns-then-left-gt8
+returns-then-left-gt8 c = let e = judged-fits _ _ _ _ c.in_ok-judge.ensures in search (moved-within, e)
 
 pub returns : goal.returns
-returns c = search moved-unfit
+returns c = let e = judged-fits _ _ _ _ c.in_ok-judge.ensures in search (moved-over, e)

@@ -1,14 +1,17 @@
 -- `key_moves::unshift_all` meets its contract. Assumes nothing.
+use Rattle.std.proofs.lemmas.Result.{err_from_is_err_and}
 use borrow.Author.Rules.{rules}
-use Rattle.key_layer.proofs.Fitting.{withins}
-use Rattle.key_layer.proofs.Calls.{asked-fit, unfit-then}
+use Rattle.key_layer.proofs.Fitting.{judged-withins}
+use Rattle.key_layer.proofs.Calls.{judged-fits, asked-refused, asked-passed}
 use Rattle.key_moves.proofs.unshift_all.Goals as goal
 
-pub layer-requires : goal.layer-requires
-layer-requires c = search (rules, withins)
+pub returns-in_err-judge : goal.returns-in_err-judge
+returns-in_err-judge c =
+    let p = err_from_is_err_and c.from_residual.result c.from_residual.ensures.1 in
+    rw (p.1, p.2) (asked-refused _ _ _ _ _ _ _ c.in_err-judge.ensures)
 
-pub returns-then-is_fit : goal.returns-then-is_fit
-returns-then-is_fit c = search asked-fit
+pub layer-requires : goal.layer-requires
+layer-requires c = let e = judged-fits _ _ _ _ c.in_ok-judge.ensures in search (rules, judged-withins, e)
 
 pub returns : goal.returns
-returns c = search unfit-then
+returns c = let e = judged-fits _ _ _ _ c.in_ok-judge.ensures in search (asked-passed, e)

@@ -2,8 +2,8 @@
 use Rattle.keys_crossing.proofs.Crosses.{compared-order, compared-refused}
 use Rattle.keys_crossing.proofs.give_compared.Goals as goal
 
-pub returns-in-Is : goal.returns-in-Is
-returns-in-Is c = search compared-order
+pub returns-in-Ok : goal.returns-in-Ok
+returns-in-Ok c = search compared-order
 
-pub returns-in-Refused : goal.returns-in-Refused
-returns-in-Refused c = search compared-refused
+pub returns-in-Err : goal.returns-in-Err
+returns-in-Err c = search compared-refused

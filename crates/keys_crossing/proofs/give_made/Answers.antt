@@ -2,8 +2,8 @@
 use Rattle.keys_crossing.proofs.Crosses.{made_at, made-refused}
 use Rattle.keys_crossing.proofs.give_made.Goals as goal
 
-pub returns-in-At : goal.returns-in-At
-returns-in-At c = search made_at
+pub returns-in-Ok : goal.returns-in-Ok
+returns-in-Ok c = search made_at
 
-pub returns-in-Refused : goal.returns-in-Refused
-returns-in-Refused c = search made-refused
+pub returns-in-Err : goal.returns-in-Err
+returns-in-Err c = search made-refused

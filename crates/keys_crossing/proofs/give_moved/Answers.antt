@@ -2,8 +2,8 @@
 use Rattle.keys_crossing.proofs.Crosses.{moved_at, moved-refused}
 use Rattle.keys_crossing.proofs.give_moved.Goals as goal
 
-pub returns-in-At : goal.returns-in-At
-returns-in-At c = search moved_at
+pub returns-in-Ok : goal.returns-in-Ok
+returns-in-Ok c = search moved_at
 
-pub returns-in-Refused : goal.returns-in-Refused
-returns-in-Refused c = search moved-refused
+pub returns-in-Err : goal.returns-in-Err
+returns-in-Err c = search moved-refused

@@ -2,8 +2,8 @@
 use Rattle.keys_crossing.proofs.Crosses.{whole-order, whole-refused}
 use Rattle.keys_crossing.proofs.give_whole.Goals as goal
 
-pub returns-in-Is : goal.returns-in-Is
-returns-in-Is c = search whole-order
+pub returns-in-Ok : goal.returns-in-Ok
+returns-in-Ok c = search whole-order
 
-pub returns-in-Refused : goal.returns-in-Refused
-returns-in-Refused c = search whole-refused
+pub returns-in-Err : goal.returns-in-Err
+returns-in-Err c = search whole-refused

@@ -5,5 +5,5 @@ use Rattle.keys_fit.proofs.is_reached.Goals as goal
 pub returns-then-shift_count-eq0 : goal.returns-then-shift_count-eq0
 returns-then-shift_count-eq0 c = search reached-first
 
-pub returns : goal.returns
-returns c = search reached-later
+pub returns-else-shift_count-eq0 : goal.returns-else-shift_count-eq0
+returns-else-shift_count-eq0 c = search reached-later

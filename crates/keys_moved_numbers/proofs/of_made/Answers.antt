@@ -2,8 +2,8 @@
 use Rattle.keys_moved_numbers.proofs.Laws.{numbers}
 use Rattle.keys_moved_numbers.proofs.of_made.Goals as goal
 
-pub returns-in-At : goal.returns-in-At
-returns-in-At c = search numbers
+pub returns-in-Ok : goal.returns-in-Ok
+returns-in-Ok c = search numbers
 
-pub returns-in-Refused : goal.returns-in-Refused
-returns-in-Refused c = search numbers
+pub returns-in-Err : goal.returns-in-Err
+returns-in-Err c = search numbers

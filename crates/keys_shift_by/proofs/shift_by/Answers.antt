@@ -1,19 +1,22 @@
 -- `keys_shift_by::shift_by` meets its contract. Assumes nothing.
-use Rattle.key_layer.proofs.Fitting.{withins}
-use Rattle.key_layer.proofs.Calls.{moving}
+use Rattle.std.proofs.lemmas.Result.{err_from_is_err_and}
+use Rattle.key_layer.proofs.Fitting.{judged-withins}
+use Rattle.key_layer.proofs.Calls.{judged-fits, moved-refused, moved_at, moved-not}
 use Rattle.keys_shift_by.proofs.shift_by.Goals as goal
 
+pub returns-in_err-judge : goal.returns-in_err-judge
+returns-in_err-judge c =
+    let p = err_from_is_err_and c.from_residual.result c.from_residual.ensures.1 in
+    rw (p.1, p.2) (moved-refused _ _ _ _ _ _ _ _ c.in_err-judge.ensures)
+
 pub overflow_add-shift_count : goal.overflow_add-shift_count
-overflow_add-shift_count c = search withins
+overflow_add-shift_count c = let e = judged-fits _ _ _ _ c.in_ok-judge.ensures in search (judged-withins, e)
 
 pub layer-requires : goal.layer-requires
-layer-requires c = search withins
+layer-requires c = let e = judged-fits _ _ _ _ c.in_ok-judge.ensures in search (judged-withins, e)
 
 pub returns-then-is_shiftable : goal.returns-then-is_shiftable
-returns-then-is_shiftable c = search moving
-
-pub returns-then-is_fit : goal.returns-then-is_fit
-returns-then-is_fit c = search moving
+returns-then-is_shiftable c = let e = judged-fits _ _ _ _ c.in_ok-judge.ensures in search (moved_at, e)
 
 pub returns : goal.returns
-returns c = search moving
+returns c = let e = judged-fits _ _ _ _ c.in_ok-judge.ensures in search (moved-not, e)

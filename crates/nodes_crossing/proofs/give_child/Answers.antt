@@ -2,8 +2,8 @@
 use Rattle.nodes_crossing.proofs.Crosses.{child-number, child-refused}
 use Rattle.nodes_crossing.proofs.give_child.Goals as goal
 
-pub returns-in-Is : goal.returns-in-Is
-returns-in-Is c = search child-number
+pub returns-in-Ok : goal.returns-in-Ok
+returns-in-Ok c = search child-number
 
-pub returns-in-Refused : goal.returns-in-Refused
-returns-in-Refused c = search child-refused
+pub returns-in-Err : goal.returns-in-Err
+returns-in-Err c = search child-refused

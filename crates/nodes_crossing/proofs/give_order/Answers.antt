@@ -2,8 +2,8 @@
 use Rattle.nodes_crossing.proofs.Crosses.{order-told, order-refused}
 use Rattle.nodes_crossing.proofs.give_order.Goals as goal
 
-pub returns-in-Is : goal.returns-in-Is
-returns-in-Is c = search order-told
+pub returns-in-Ok : goal.returns-in-Ok
+returns-in-Ok c = search order-told
 
-pub returns-in-Refused : goal.returns-in-Refused
-returns-in-Refused c = search order-refused
+pub returns-in-Err : goal.returns-in-Err
+returns-in-Err c = search order-refused

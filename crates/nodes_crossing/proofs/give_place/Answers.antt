@@ -2,8 +2,8 @@
 use Rattle.nodes_crossing.proofs.Crosses.{place_at, place-refused}
 use Rattle.nodes_crossing.proofs.give_place.Goals as goal
 
-pub returns-in-At : goal.returns-in-At
-returns-in-At c = search place_at
+pub returns-in-Ok : goal.returns-in-Ok
+returns-in-Ok c = search place_at
 
-pub returns-in-Refused : goal.returns-in-Refused
-returns-in-Refused c = search place-refused
+pub returns-in-Err : goal.returns-in-Err
+returns-in-Err c = search place-refused

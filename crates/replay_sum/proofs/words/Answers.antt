@@ -1,10 +1,8 @@
--- `words` meets its contract: one member more, and behind the last.
+-- `words` meets its contract: the fold over the members is the sum.
 use Rattle.std.proofs.Common.{rules}
-use Rattle.replay_sum.proofs.Sums.{sum-next, sum-last}
+use Rattle.replay_sum.specs.Sums.{summed}
 use Rattle.replay_sum.proofs.words.Goals as goal
 
-pub loop-i-preserved : goal.loop-i-preserved
-loop-i-preserved c = (search rules, search sum-next)
-
 pub returns : goal.returns
-returns c = search sum-last
+unfolding summed
+returns c = search rules

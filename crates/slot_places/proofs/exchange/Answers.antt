@@ -2,14 +2,11 @@
 use Rattle.slot_answers.proofs.Calls.{asks, calls}
 use Rattle.slot_places.proofs.exchange.Goals as goal
 
-pub returns-in-No : goal.returns-in-No
-returns-in-No c = search calls
+pub returns-in_err-judged : goal.returns-in_err-judged
+returns-in_err-judged c = search calls
 
 pub returns-then-width-i : goal.returns-then-width-i
 returns-then-width-i c = search calls
-
-pub returns-then-width-j : goal.returns-then-width-j
-returns-then-width-j c = search calls
 
 pub swap-requires : goal.swap-requires
 swap-requires c = search asks

@@ -2,14 +2,11 @@
 use Rattle.slot_answers.proofs.Calls.{asks, calls}
 use Rattle.slot_places.proofs.rotate.Goals as goal
 
-pub returns-in-No : goal.returns-in-No
-returns-in-No c = search calls
+pub returns-in_err-judged : goal.returns-in_err-judged
+returns-in_err-judged c = search calls
 
 pub returns-then-j-i : goal.returns-then-j-i
 returns-then-j-i c = search calls
-
-pub returns-then-width-j : goal.returns-then-width-j
-returns-then-width-j c = search calls
 
 pub moved-requires : goal.moved-requires
 moved-requires c = search asks

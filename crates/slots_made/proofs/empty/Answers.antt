@@ -5,8 +5,5 @@ use Rattle.slots_made.proofs.empty.Goals as goal
 pub returns-then-width-lt1 : goal.returns-then-width-lt1
 returns-then-width-lt1 c = search made
 
-pub returns-then-width-gt15 : goal.returns-then-width-gt15
-returns-then-width-gt15 c = search made
-
 pub returns : goal.returns
 returns c = search made

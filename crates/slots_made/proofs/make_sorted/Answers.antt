@@ -5,9 +5,6 @@ use Rattle.slots_made.proofs.make_sorted.Goals as goal
 pub returns-then-width-lt1 : goal.returns-then-width-lt1
 returns-then-width-lt1 c = search made
 
-pub returns-then-width-gt15 : goal.returns-then-width-gt15
-returns-then-width-gt15 c = search made
-
 pub returns-then-width-n : goal.returns-then-width-n
 returns-then-width-n c = search made
 

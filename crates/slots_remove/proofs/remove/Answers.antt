@@ -2,8 +2,8 @@
 use Rattle.slot_answers.proofs.Calls.{asks, calls}
 use Rattle.slots_remove.proofs.remove.Goals as goal
 
-pub returns-in-No : goal.returns-in-No
-returns-in-No c = search calls
+pub returns-in_err-judged : goal.returns-in_err-judged
+returns-in_err-judged c = search calls
 
 pub returns-then-size-i : goal.returns-then-size-i
 returns-then-size-i c = search calls

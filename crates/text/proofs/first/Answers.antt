@@ -1,18 +1,13 @@
--- `text::first` meets its contract: what stands before the first separator is i bytes and what stands before it from i on. Assumes nothing.
-use borrow.Author.Rules.{rules}
-use Prim.Native.Nat.{◌-◌}
-use Rattle.text.proofs.Splits.{found_here, found-more, found_none}
-use native.Mathlib.Omega.{arith}
+-- `text::first` meets its contract. Assumes nothing.
+use Rattle.std.proofs.Common.{◌≡◌, rules}
+use Rattle.std.proofs.lemmas.Iterator.{IsFirst-from_position, YieldsList-from_slice}
+use borrow.Author.Tests.{tests}
+use Rattle.text.proofs.Splits.{first_is}
 use Rattle.text.proofs.first.Goals as goal
 
-pub loop-i-init : goal.loop-i-init
-loop-i-init c = (omega arith, omega arith)
-
-pub returns-then-s-i : goal.returns-then-s-i
-returns-then-s-i c = (search found_here, search rules)
-
-pub loop-i-preserved : goal.loop-i-preserved
-loop-i-preserved c = (search rules, search found-more)
-
 pub returns : goal.returns
-returns c = (search found_none, search rules)
+returns c =
+    first_is c.args.separator c.args.s.now c.position.result
+    (IsFirst-from_position _ _ _ (λ b. b ≡ c.args.separator) (λ b. b ≡ c.args.separator → ⊥) c.position.ensures.ran
+    (YieldsList-from_slice c.args.s.now cc) (λ x q k. search (rules, tests)) (λ x q k. search (rules, tests)))
+    c.unwrap_or.ensures

@@ -2,8 +2,8 @@
 use Rattle.wide_crossing.proofs.Crosses.{changed-bank, changed-refused}
 use Rattle.wide_crossing.proofs.give_changed.Goals as goal
 
-pub returns-in-Accepted : goal.returns-in-Accepted
-returns-in-Accepted c = search changed-bank
+pub returns-in-Ok : goal.returns-in-Ok
+returns-in-Ok c = search changed-bank
 
-pub returns-in-Refused : goal.returns-in-Refused
-returns-in-Refused c = search changed-refused
+pub returns-in-Err : goal.returns-in-Err
+returns-in-Err c = search changed-refused

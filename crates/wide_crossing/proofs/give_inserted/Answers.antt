@@ -2,8 +2,8 @@
 use Rattle.wide_crossing.proofs.Crosses.{inserted-slot, inserted-refused}
 use Rattle.wide_crossing.proofs.give_inserted.Goals as goal
 
-pub returns-in-Slot : goal.returns-in-Slot
-returns-in-Slot c = search inserted-slot
+pub returns-in-Ok : goal.returns-in-Ok
+returns-in-Ok c = search inserted-slot
 
-pub returns-in-Refused : goal.returns-in-Refused
-returns-in-Refused c = search inserted-refused
+pub returns-in-Err : goal.returns-in-Err
+returns-in-Err c = search inserted-refused

@@ -5,9 +5,6 @@ use Rattle.wide_made.proofs.make_sorted.Goals as goal
 pub returns-then-width-lt16 : goal.returns-then-width-lt16
 returns-then-width-lt16 c = search made
 
-pub returns-then-width-gt24 : goal.returns-then-width-gt24
-returns-then-width-gt24 c = search made
-
 pub returns-then-width-n : goal.returns-then-width-n
 returns-then-width-n c = search made
 

@@ -1,19 +1,16 @@
 -- `exchange` meets its contract. Assumes nothing.
 use Rattle.wide_answers.proofs.Asks.{asks}
-use Rattle.wide_answers.proofs.Calls.{calls}
+use Rattle.wide_answers.proofs.Calls.{Passes, calls}
 use Rattle.wide_places.proofs.exchange.Goals as goal
 
-pub returns-in-No : goal.returns-in-No
-returns-in-No c = search calls
+pub returns-in_err-judged : goal.returns-in_err-judged
+returns-in_err-judged c = search calls
 
 pub returns-then-width-i : goal.returns-then-width-i
 returns-then-width-i c = search calls
 
-pub returns-then-width-j : goal.returns-then-width-j
-returns-then-width-j c = search calls
-
-pub swap-next-requires : goal.swap-next-requires
-swap-next-requires c = search asks
+pub swap-requires : goal.swap-requires
+swap-requires c = search asks
 
 pub returns : goal.returns
-returns c = search calls
+returns c = let p : Passes c.args.width c.args.bank = search calls in search calls

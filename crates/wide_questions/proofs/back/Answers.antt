@@ -3,8 +3,8 @@ use Rattle.wide_answers.proofs.Asks.{asks}
 use Rattle.wide_answers.proofs.Calls.{calls}
 use Rattle.wide_questions.proofs.back.Goals as goal
 
-pub returns-in-No : goal.returns-in-No
-returns-in-No c = search calls
+pub returns-in_err-judge : goal.returns-in_err-judge
+returns-in_err-judge c = search calls
 
 pub byte-requires : goal.byte-requires
 byte-requires c = search asks

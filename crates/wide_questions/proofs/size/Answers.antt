@@ -2,8 +2,8 @@
 use Rattle.wide_answers.proofs.Calls.{calls}
 use Rattle.wide_questions.proofs.size.Goals as goal
 
-pub returns-in-No : goal.returns-in-No
-returns-in-No c = search calls
+pub returns-in_err-judge : goal.returns-in_err-judge
+returns-in_err-judge c = search calls
 
 pub returns : goal.returns
 returns c = search calls

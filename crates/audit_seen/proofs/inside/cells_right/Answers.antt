@@ -1,6 +1,5 @@
 -- `audit_seen::inside::cells_right` meets its contract. Assumes nothing.
 use borrow.Author.Tests.{not-false}
-use Prim.Native.Nat.{◌-◌}
 use Rattle.audit_seen.proofs.Rests.{counts, cells-next}
 use Rattle.audit_seen.proofs.inside.cells_right.Goals as goal
 
@@ -19,12 +18,6 @@ bounds-seen-k c = search counts
 pub overflow_add-many : goal.overflow_add-many
 overflow_add-many c = search counts
 
-pub overflow_add-k-then-seen-k-eq1 : goal.overflow_add-k-then-seen-k-eq1
-overflow_add-k-then-seen-k-eq1 c = search counts
-
-pub loop-k-smaller-then-seen-k-eq1 : goal.loop-k-smaller-then-seen-k-eq1
-loop-k-smaller-then-seen-k-eq1 c = search counts
-
 pub loop-k-preserved-then-seen-k-eq1 : goal.loop-k-preserved-then-seen-k-eq1
 loop-k-preserved-then-seen-k-eq1 c = search counts
 
@@ -34,17 +27,9 @@ cell_free-requires c = search counts
 pub returns-then-not-cell_free : goal.returns-then-not-cell_free
 returns-then-not-cell_free c = search counts
 
-pub overflow_add-k-in-loop-k : goal.overflow_add-k-in-loop-k
-overflow_add-k-in-loop-k c = search counts
-
-pub loop-k-smaller : goal.loop-k-smaller
-loop-k-smaller c = search counts
-
 pub loop-k-preserved : goal.loop-k-preserved
 loop-k-preserved c = (
-  search counts,
-  cells-next _ _ _ _ c.if-seen-k-eq1.false c.cell_free.ensures c.loop-k.invariant.1
-      (not-false _ c.if-not-cell_free.false-raw),
+  cells-next _ _ _ _ c.if-seen-k-eq1.false c.cell_free.ensures c.loop-k.invariant.0 (not-false _ c.if-not-cell_free.false-raw),
   search counts,
   search counts,
 )

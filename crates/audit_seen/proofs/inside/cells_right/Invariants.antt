@@ -1,5 +1,5 @@
 -- `audit_seen::inside::cells_right` meets its contract. Assumes nothing.
-use Prim.Native.Nat.{◌≤◌, ◌-◌}
+use Prim.Native.Nat.{◌≤◌}
 use mathlib.Core.Path.{◌≡◌}
 use mathlib.Core.Bool.{true}
 use Rattle.bank.specs.Lists.{all_below}
@@ -9,7 +9,4 @@ use Rattle.audit_seen.proofs.inside.cells_right.Given as goal
 
 abbrev pub invariant-loop-k : goal.invariant-loop-k
 invariant-loop-k l =
-    (l.k ≤ l.c) × (all_below l.k (cell_left l.cells l.bytes l.seen) ≡ true) × (l.many ≤ l.k) × (l.many ≡ how_many l.k (cell_seen l.seen))
-
-abbrev pub decreases-loop-k : goal.decreases-loop-k
-decreases-loop-k l = l.c - l.k
+    (all_below l.k (cell_left l.cells l.bytes l.seen) ≡ true) × (l.many ≤ l.k) × (l.many ≡ how_many l.k (cell_seen l.seen))

@@ -1,5 +1,4 @@
 -- `audit_seen::inside::nodes_free` meets its contract. Assumes nothing.
-use Prim.Native.Nat.{◌-◌}
 use Rattle.audit_seen.proofs.Rests.{lefts}
 use Rattle.audit_seen.proofs.inside.nodes_free.Goals as goal
 
@@ -12,12 +11,6 @@ overflow_mul-k c = search lefts
 pub bounds-seen-k : goal.bounds-seen-k
 bounds-seen-k c = search lefts
 
-pub overflow_add-k : goal.overflow_add-k
-overflow_add-k c = search lefts
-
-pub loop-k-smaller-then-seen-k-eq1 : goal.loop-k-smaller-then-seen-k-eq1
-loop-k-smaller-then-seen-k-eq1 c = search lefts
-
 pub loop-k-preserved-then-seen-k-eq1 : goal.loop-k-preserved-then-seen-k-eq1
 loop-k-preserved-then-seen-k-eq1 c = search lefts
 
@@ -26,12 +19,6 @@ node_free-requires c = search lefts
 
 pub returns-then-not-node_free : goal.returns-then-not-node_free
 returns-then-not-node_free c = search lefts
-
-pub overflow_add-k-in-loop-k : goal.overflow_add-k-in-loop-k
-overflow_add-k-in-loop-k c = search lefts
-
-pub loop-k-smaller : goal.loop-k-smaller
-loop-k-smaller c = search lefts
 
 pub loop-k-preserved : goal.loop-k-preserved
 loop-k-preserved c = search lefts

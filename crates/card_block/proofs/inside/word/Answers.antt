@@ -1,4 +1,4 @@
--- `word` meets its contract. Assumes nothing.
+-- `inside::word` meets its contract. Assumes nothing.
 use Rattle.card_block.proofs.Words.{word-is}
 use Rattle.card_block.proofs.inside.word.Goals as goal
 

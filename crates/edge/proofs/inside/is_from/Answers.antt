@@ -2,8 +2,8 @@
 use Rattle.edge.proofs.Edges.{edges}
 use Rattle.edge.proofs.inside.is_from.Goals as goal
 
-pub returns-then-not-low : goal.returns-then-not-low
-returns-then-not-low c = search edges
+pub returns-in-None : goal.returns-in-None
+returns-in-None c = search edges
 
-pub returns : goal.returns
-returns c = search edges
+pub returns-in-Some : goal.returns-in-Some
+returns-in-Some c = search edges

@@ -3,18 +3,18 @@
 -- Assumes nothing.
 use Rattle.ikey.proofs.Orders.{halves}
 use Rattle.ikey.proofs.inside.+compare_parts.Goals as goal
+use Rattle.ikey.proofs.inside.+compare_parts.Goals.{
+  then-is_ne-via-then-is_ne,
+  then-is_ne-via-else-is_ne+then-m-lt9,
+  then-is_ne-via-else-is_ne+else-m-lt9+then-n-lt9,
+}
 
-pub returns-then-m-lt9 : goal.returns-then-m-lt9
-returns-then-m-lt9 t c = search halves
+pub returns-then-is_ne : goal.returns-then-is_ne
+returns-then-is_ne t c = elim c.then-is_ne.branch [
+  | then-is_ne-via-then-is_ne w ↦ search halves
+  | then-is_ne-via-else-is_ne+then-m-lt9 w ↦ search halves
+  | then-is_ne-via-else-is_ne+else-m-lt9+then-n-lt9 w ↦ search halves
+]
 
-pub returns-then-n-lt9 : goal.returns-then-n-lt9
-returns-then-n-lt9 t c = search halves
-
-pub returns-in-Less : goal.returns-in-Less
-returns-in-Less t c = search halves
-
-pub returns-in-Greater : goal.returns-in-Greater
-returns-in-Greater t c = search halves
-
-pub returns-else-n-lt9 : goal.returns-else-n-lt9
-returns-else-n-lt9 t c = search halves
+pub returns : goal.returns
+returns t c = search halves

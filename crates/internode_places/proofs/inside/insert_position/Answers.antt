@@ -1,18 +1,21 @@
 -- `inside::insert_position` meets its contract. Assumes nothing.
-use Prim.Native.Nat.{◌-◌}
-use native.Mathlib.Omega.{arith}
+use mathlib.Core.Path.{◌≡◌, ◌∙◌}
 use borrow.Author.Rules.{rules}
-use Rattle.internode_places.proofs.Judgement.{below-one-more, position_here, position-end}
+use borrow.Author.Tests.{tests}
+use lib.Dec.{leb}
+use lib.ListN.{length}
+use Rattle.std.proofs.lemmas.Iterator.{YieldsList-from_slice}
+use Rattle.std.proofs.lemmas.Iterator.Search.{position_from_yields_List}
+use Rattle.std.specs.List.{position}
+use Rattle.internode_places.specs.Node.{keys_of}
+use Rattle.internode_places.proofs.Judgement.{found-first}
 use Rattle.internode_places.proofs.inside.insert_position.Goals as goal
 
-pub loop-i-init : goal.loop-i-init
-loop-i-init c = (omega arith, λ k h. absurd (omega arith))
-
-pub returns-then-target-node : goal.returns-then-target-node
-returns-then-target-node c = search (rules, position_here)
-
-pub loop-i-preserved : goal.loop-i-preserved
-loop-i-preserved c = (omega arith, search (rules, below-one-more))
-
 pub returns : goal.returns
-returns c = search (rules, position-end)
+returns c =
+    let a = c.args in
+    let k : length a.node.ikeys ≡ 15 = search rules in
+    let e : c.position.result ≡ position (λ k. leb a.target k) (keys_of a.node) =
+    position_from_yields_List (λ k. leb a.target k) _ _ c.position.result c.position.ensures.ran (YieldsList-from_slice (keys_of a.node) cc)
+    (λ x b q h. search (rules, tests)) in
+    c.unwrap_or.ensures ∙ found-first a.node k (λ k. leb a.target k) c.requires e

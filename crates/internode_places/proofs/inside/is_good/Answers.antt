@@ -1,21 +1,19 @@
 -- `inside::is_good` meets its contract. Assumes nothing.
-use Prim.Native.Nat.{◌-◌}
-use native.Mathlib.Omega.{arith}
+use mathlib.Core.Path.{◌≡◌}
 use borrow.Author.Rules.{rules}
-use Rattle.internode_places.proofs.Judgement.{rises-more, too_many, not-rising, all-rising}
+use borrow.Author.Tests.{lt-leb, tests}
+use lib.Dec.{ltb}
+use lib.ListN.{length}
+use Rattle.std.proofs.lemmas.List.Sorted.{answers_always}
+use Rattle.internode_places.specs.Node.{good}
+use Rattle.internode_places.proofs.Judgement.{judged}
 use Rattle.internode_places.proofs.inside.is_good.Goals as goal
 
-pub returns-then-n-gt15 : goal.returns-then-n-gt15
-returns-then-n-gt15 c = search (rules, too_many)
+pub returns-then-few : goal.returns-then-few
+returns-then-few c =
+    let k : length c.args.node.ikeys ≡ 15 = search rules in
+    judged c.args.node k c.if-few.true (c.is_sorted_by.ensures.cases (λ k m. ltb k m) (answers_always _ _ _ (λ f a r h k. search (rules, tests))))
 
-pub loop-i-init : goal.loop-i-init
-loop-i-init c = (omega arith, λ k h. absurd (omega arith))
-
-pub returns-then-node-i : goal.returns-then-node-i
-returns-then-node-i c = search (rules, not-rising)
-
-pub loop-i-preserved : goal.loop-i-preserved
-loop-i-preserved c = (omega arith, search (rules, rises-more))
-
-pub returns : goal.returns
-returns c = search (rules, all-rising)
+pub returns-else-few : goal.returns-else-few
+unfolding good
+returns-else-few c = rw (lt-leb c.args.node.n 15 c.if-few.false)

@@ -1,16 +1,14 @@
 -- `leaf::inside::scan` meets its contract. Assumes nothing.
-use Prim.Native.Nat.{◌-◌}
-use native.Mathlib.Omega.{arith}
 use borrow.Author.Count.{below_none}
 use borrow.Author.Rules.{rules}
 use Rattle.leaf.proofs.Searches.{start-within, scan-end, scan-on, scan-met, scan-less, scan-kind}
 use Rattle.leaf.proofs.inside.scan.Goals as goal
 
 pub loop-i-init : goal.loop-i-init
-loop-i-init c = (omega arith, below_none _)
+loop-i-init c = below_none _
 
 pub loop-i-preserved : goal.loop-i-preserved
-loop-i-preserved c = (omega arith, search scan-on)
+loop-i-preserved c = search scan-on
 
 pub met-requires : goal.met-requires
 met-requires c = search (rules, scan-kind, start-within)

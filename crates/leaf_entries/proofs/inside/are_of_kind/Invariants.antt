@@ -1,5 +1,5 @@
 -- `leaf_entries::inside::are_of_kind` meets its contract. Assumes nothing.
-use Prim.Native.Nat.{ℕ, ◌-◌, ◌≤◌, ◌<◌}
+use Prim.Native.Nat.{ℕ, ◌<◌}
 use mathlib.Core.Path.{◌≡◌}
 use mathlib.Core.Bool.{true}
 use lib.ListN.{get_or}
@@ -8,7 +8,4 @@ use Rattle.leaf_entries.proofs.inside.are_of_kind.Given as goal
 
 abbrev pub invariant-loop-i : goal.invariant-loop-i
 invariant-loop-i l =
-    (l.i ≤ l.size) × ((k : ℕ) → k < l.i → of_kind l.cells (get_or (entries_in_order l.word l.entries) k none) ≡ true)
-
-abbrev pub decreases-loop-i : goal.decreases-loop-i
-decreases-loop-i l = l.size - l.i
+    ((k : ℕ) → k < l.i → of_kind l.cells (get_or (entries_in_order l.word l.entries) k none) ≡ true)

@@ -2,11 +2,5 @@
 use Rattle.leaf_entries.proofs.Judged.{judged}
 use Rattle.leaf_entries.proofs.inside.is_less.Goals as goal
 
-pub returns-in-Less : goal.returns-in-Less
-returns-in-Less c = search judged
-
-pub returns-in-Equal : goal.returns-in-Equal
-returns-in-Equal c = search judged
-
-pub returns-in-Greater : goal.returns-in-Greater
-returns-in-Greater c = search judged
+pub returns : goal.returns
+returns c = search judged

@@ -2,8 +2,5 @@
 use Rattle.leaf_entries.proofs.Views.{words}
 use Rattle.leaf_entries.proofs.inside.is_valid.Goals as goal
 
-pub returns-in_default : goal.returns-in_default
-returns-in_default c = search words
-
 pub returns : goal.returns
 returns c = search words

@@ -1,5 +1,5 @@
 -- `inside::lowest_zero` meets its contract: none of the numbers passed is free. Assumes nothing.
-use Prim.Native.Nat.{◌<◌, ◌-◌}
+use Prim.Native.Nat.{◌<◌}
 use native.Mathlib.Omega.{arith}
 use borrow.Author.Rules.{rules}
 use lib.ListN.{length}
@@ -8,7 +8,7 @@ use Rattle.lent_nodes.proofs.Frees.{found-lowest, pass-one, in_words, none-lowes
 use Rattle.lent_nodes.proofs.inside.lowest_zero.Goals as goal
 
 pub loop-i-init : goal.loop-i-init
-loop-i-init c = (omega arith, passed_none _ _)
+loop-i-init c = passed_none _ _
 
 pub overflow_mul-i : goal.overflow_mul-i
 overflow_mul-i c =
@@ -29,7 +29,7 @@ pub returns-then-words-start-eq0 : goal.returns-then-words-start-eq0
 returns-then-words-start-eq0 c = search found-lowest
 
 pub loop-i-preserved : goal.loop-i-preserved
-loop-i-preserved c = (search rules, search pass-one)
+loop-i-preserved c = search pass-one
 
 pub returns : goal.returns
 returns c = search none-lowest

@@ -9,5 +9,5 @@ returns c =
     let w : WholeInternode c.args.x =
     record { ikeys-15 = search rules; children-16 = search rules } in
     internode-written _ _ _ w c.requires c.put1.ensures c.put1-2.ensures
-    c.put15.ensures c.put16.ensures
+    c.put_words.ensures c.put_words-2.ensures
     c.zero_words.ensures

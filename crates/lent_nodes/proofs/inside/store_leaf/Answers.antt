@@ -9,5 +9,5 @@ returns c =
     let w : WholeLeaf c.args.leaf =
     record { ikeys-15 = search rules; classes-15 = search rules; refs-15 = search rules } in
     leaf-written _ _ _ w c.requires c.put1.ensures c.put1-2.ensures
-    c.put15.ensures c.put15-2.ensures
-    c.put15-3.ensures
+    c.put_words.ensures c.put_words-2.ensures
+    c.put_words-3.ensures

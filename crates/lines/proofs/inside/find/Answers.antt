@@ -6,8 +6,8 @@ use Rattle.lines.proofs.inside.find.Goals as goal
 pub number-requires : goal.number-requires
 number-requires c = search number-room
 
-pub returns-in-Frame : goal.returns-in-Frame
-returns-in-Frame c = search find-frame
+pub returns-in-Ok : goal.returns-in-Ok
+returns-in-Ok c = search find-frame
 
-pub returns-in-Refused : goal.returns-in-Refused
-returns-in-Refused c = search find-refused
+pub returns-in-Err : goal.returns-in-Err
+returns-in-Err c = search find-refused

@@ -1,5 +1,4 @@
 -- `inside::entries` meets its contract: after k turns, k entries are printed. Assumes nothing.
-use Prim.Native.Nat.{◌-◌, ◌≤◌}
 use mathlib.Core.Path.{◌≡◌}
 use lib.ListN.{length, take}
 use Rattle.page.specs.Page.{Typed}
@@ -9,8 +8,5 @@ use Rattle.model.specs.Calls.{in_key_order}
 use Rattle.lines_list.proofs.inside.entries.Given as goal
 
 abbrev pub invariant-loop-k : goal.invariant-loop-k
-invariant-loop-k l = (l.k ≤ l.n) × (length l.out ≡ length l.initial.out)
+invariant-loop-k l = (length l.out ≡ length l.initial.out)
     × Typed l.initial.out l.at (entry_texts (memory l.nodes l.cells l.bytes) (take l.k (in_key_order (memory l.nodes l.cells l.bytes)))) l.next l.out
-
-abbrev pub decreases-loop-k : goal.decreases-loop-k
-decreases-loop-k l = l.n - l.k

@@ -2,8 +2,5 @@
 use Rattle.nodes_cut.proofs.Words.{words}
 use Rattle.nodes_cut.proofs.inside.sorted_word.Goals as goal
 
-pub returns-in_default : goal.returns-in_default
-returns-in_default c = search words
-
 pub returns : goal.returns
 returns c = search words

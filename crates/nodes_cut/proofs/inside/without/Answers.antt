@@ -2,8 +2,8 @@
 use Rattle.nodes_cut.proofs.Words.{words}
 use Rattle.nodes_cut.proofs.inside.without.Goals as goal
 
-pub returns-in-Word : goal.returns-in-Word
-returns-in-Word c = search words
+pub returns-in-Ok : goal.returns-in-Ok
+returns-in-Ok c = search words
 
-pub returns-in-Refused : goal.returns-in-Refused
-returns-in-Refused c = search words
+pub returns-in-Err : goal.returns-in-Err
+returns-in-Err c = search words

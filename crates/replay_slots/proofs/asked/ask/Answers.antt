@@ -71,4 +71,4 @@ returns-in-15 c = search asks
 pub returns-in_default : goal.returns-in_default
 returns-in_default c =
     let a = c.args in
-    asks_nothing a.call a.width a.word a.a a.b (omega arith)
+    asks_nothing a.call a.width a.word a.a a.b (omega arith) c.one.ensures

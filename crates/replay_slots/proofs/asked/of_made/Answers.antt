@@ -2,8 +2,8 @@
 use Rattle.replay_slots.proofs.Says.{made-refused, made_word}
 use Rattle.replay_slots.proofs.asked.of_made.Goals as goal
 
-pub returns-in-Word : goal.returns-in-Word
-returns-in-Word c = search made_word
+pub returns-in-Ok : goal.returns-in-Ok
+returns-in-Ok c = search made_word
 
-pub returns-in-Refused : goal.returns-in-Refused
-returns-in-Refused c = search made-refused
+pub returns-in-Err : goal.returns-in-Err
+returns-in-Err c = search made-refused

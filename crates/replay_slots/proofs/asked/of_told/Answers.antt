@@ -2,8 +2,8 @@
 use Rattle.replay_slots.proofs.Says.{told-number, told-refused}
 use Rattle.replay_slots.proofs.asked.of_told.Goals as goal
 
-pub returns-in-Number : goal.returns-in-Number
-returns-in-Number c = search told-number
+pub returns-in-Ok : goal.returns-in-Ok
+returns-in-Ok c = search told-number
 
-pub returns-in-Refused : goal.returns-in-Refused
-returns-in-Refused c = search told-refused
+pub returns-in-Err : goal.returns-in-Err
+returns-in-Err c = search told-refused

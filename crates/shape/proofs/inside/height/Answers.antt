@@ -1,6 +1,4 @@
 -- `shape::inside::height` meets its contract. Assumes nothing.
-use Prim.Native.Nat.{◌-◌}
-use borrow.Author.Rules.{rules}
 use Rattle.shape.proofs.Internodes.{down}
 use Rattle.shape.proofs.inside.height.Goals as goal
 
@@ -11,7 +9,7 @@ pub returns-then-nodes-at-ne-INTERNODE : goal.returns-then-nodes-at-ne-INTERNODE
 returns-then-nodes-at-ne-INTERNODE c = search down
 
 pub loop-h-preserved : goal.loop-h-preserved
-loop-h-preserved c = (search rules, search down)
+loop-h-preserved c = search down
 
 pub returns : goal.returns
 returns c = search down

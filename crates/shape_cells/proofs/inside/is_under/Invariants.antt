@@ -1,12 +1,9 @@
 -- `shape_cells::inside::is_under` meets its contract. Assumes nothing.
-use Prim.Native.Nat.{◌*◌, ◌-◌, ◌≤◌}
+use Prim.Native.Nat.{◌*◌}
 use mathlib.Core.Path.{◌≡◌}
 use lib.ListN.{take, drop}
 use Rattle.forest.specs.Cells.{under}
 use Rattle.shape_cells.proofs.inside.is_under.Given as goal
 
 abbrev pub invariant-loop-i : goal.invariant-loop-i
-invariant-loop-i l = (l.i ≤ l.links) × (under l.key 0 (take l.links l.above) ≡ under l.key (8 * l.i) (drop l.i (take l.links l.above)))
-
-abbrev pub decreases-loop-i : goal.decreases-loop-i
-decreases-loop-i l = l.links - l.i
+invariant-loop-i l = under l.key 0 (take l.links l.above) ≡ under l.key (8 * l.i) (drop l.i (take l.links l.above))

@@ -1,5 +1,5 @@
 -- `shape_leaves::inside::entries_of_class` meets its contract. Assumes nothing.
-use Prim.Native.Nat.{ℕ, ◌-◌, ◌≤◌, ◌<◌}
+use Prim.Native.Nat.{ℕ, ◌<◌}
 use mathlib.Core.Path.{◌≡◌}
 use mathlib.Core.Bool.{true}
 use lib.ListN.{get_or}
@@ -8,7 +8,4 @@ use Rattle.forest.specs.Nodes.{entries_at, of_class}
 use Rattle.shape_leaves.proofs.inside.entries_of_class.Given as goal
 
 abbrev pub invariant-loop-i : goal.invariant-loop-i
-invariant-loop-i l = (l.i ≤ l.size) × ((j : ℕ) → j < l.i → of_class (get_or (entries_at l.nodes l.k) j none) ≡ true)
-
-abbrev pub decreases-loop-i : goal.decreases-loop-i
-decreases-loop-i l = l.size - l.i
+invariant-loop-i l = (j : ℕ) → j < l.i → of_class (get_or (entries_at l.nodes l.k) j none) ≡ true

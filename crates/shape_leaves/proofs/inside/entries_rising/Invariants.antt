@@ -9,7 +9,4 @@ use Rattle.shape_leaves.proofs.inside.entries_rising.Given as goal
 
 abbrev pub invariant-loop-i : goal.invariant-loop-i
 invariant-loop-i l =
-    (1 ≤ l.i) × ((j : ℕ) → j < l.i → 1 ≤ j → less (get_or (entries_at l.nodes l.k) (j - 1) none) (get_or (entries_at l.nodes l.k) j none) ≡ true)
-
-abbrev pub decreases-loop-i : goal.decreases-loop-i
-decreases-loop-i l = l.size - l.i
+    (j : ℕ) → j < l.i → 1 ≤ j → less (get_or (entries_at l.nodes l.k) (j - 1) none) (get_or (entries_at l.nodes l.k) j none) ≡ true

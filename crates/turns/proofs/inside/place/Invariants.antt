@@ -1,10 +1,7 @@
 -- `inside::place` meets its contract. Assumes nothing.
 use mathlib.Core.Path.{◌≡◌}
-use Prim.Native.Nat.{ℕ, ◌-◌, ◌+◌, ◌≤◌, ◌<◌, ◌*◌, ◌/◌, ◌%◌, ◌^◌}
+use Prim.Native.Nat.{ℕ, ◌+◌, ◌<◌, ◌*◌, ◌/◌, ◌%◌, ◌^◌}
 use Rattle.turns.proofs.inside.place.Given as goal
 
 abbrev pub invariant-loop-i : goal.invariant-loop-i
-invariant-loop-i l = (l.i ≤ l.size) × ((k : ℕ) → k < l.i → l.word / 2 ^ (4 * (k + 1)) % 16 ≡ l.slot → ⊥)
-
-abbrev pub decreases-loop-i : goal.decreases-loop-i
-decreases-loop-i l = l.size - l.i
+invariant-loop-i l = (k : ℕ) → k < l.i → l.word / 2 ^ (4 * (k + 1)) % 16 ≡ l.slot → ⊥

