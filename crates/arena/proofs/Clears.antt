@@ -62,6 +62,9 @@ module _ (nodes cells bytes : List ℕ) {r : Result Fit Refusal} (e : said_measu
             ∙ ap zeros w.bytes_whole,
       )
 
+-- what `clear` names, so that a refusal needs no answer of its own
+pub ruleset clearing = (one-node, clear-refused, clear-done)
+
 -- ---- what `clear` leaves
 
 module _ (n c : ℕ) (some : 1 ≤ n) where

@@ -47,6 +47,7 @@ pub fn measure(nodes: usize, cells: usize, bytes: usize) -> Result<Fit, Refusal>
 }
 
 // Leaves node 0, an empty leaf, as root, and everything else zero.
+#[tactic(auto, using(crate::proofs::Clears::clearing))]
 pub fn clear(nodes: &mut [u64], cells: &mut [u64], bytes: &mut [u8]) -> Result<(), Refusal>
     ensures { did (said_cleared result) (memory nodes.new cells.new bytes.new)
         ≡ cleared (memory nodes.old cells.old bytes.old) }

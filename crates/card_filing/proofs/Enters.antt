@@ -41,6 +41,8 @@ module _ (d : Memory) (e : List ℕ × ℕ) where
   put_refused (put_no.TooFewNodes n) w = rw w
   put_refused (put_no.Refused why) w = rw (w, ne_eqb (number_of why) 0 (omega (arith, number-pos why)))
 
+pub ruleset puts = (put_on, put_refused)
+
 -- ---- one byte
 
 pub entered-key : (key : List ℕ) (t : Fields) {k : List ℕ} → Fits t → k ≡ take (t.last - 1) key → length k ≤ 256

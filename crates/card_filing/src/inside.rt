@@ -14,6 +14,7 @@ use card_fields::Fields;
 use index_put::PutRefused;
 
 // The next put, unless one before it was refused.
+#[tactic(auto, using(crate::proofs::Enters::puts))]
 fn and_put(
     nodes: &mut [u64],
     cells: &mut [u64],

@@ -9,6 +9,7 @@ ghost use Rattle.index_count.specs.Answers.{said_counted};
 use refusal::Refusal;
 
 // The number of entries as it is stored; refusal 10 for wrong lent lengths only.
+#[tactic(auto, using(crate::proofs::Counting::counting))]
 pub fn count(nodes: &[u64], cells: &[u64], bytes: &[u8]) -> Result<u64, Refusal>
     ensures { said_counted result ≡ count_said (memory nodes.now cells.now bytes.now) }
 {

@@ -86,7 +86,7 @@ pub fn give_found(answer: Result<u64, Refusal>, frame: &mut u64) -> u64
             *frame = stored;
             0
         }
-        Err(why) => refusal::number(why),
+        Err(not_found) => refusal::number(not_found),
     }
 }
 
@@ -99,7 +99,7 @@ pub fn give_counted(answer: Result<u64, Refusal>, count: &mut u64) -> u64
             *count = n;
             0
         }
-        Err(why) => refusal::number(why),
+        Err(not_counted) => refusal::number(not_counted),
     }
 }
 

@@ -55,8 +55,8 @@ pub fn kth(nodes: &[u64], cells: &[u64], bytes: &[u8], k: u64) -> Result<Listed,
         return Err(Refusal::Memory);
     }
     let reached = seek::inside::kth_layer(nodes, 0, nodes[0], k);
-    if let Reached::Here(cell) = reached {
-        return Ok(entries::entry_at(cells, cell));
+    match reached {
+        Reached::Here(cell) => Ok(entries::entry_at(cells, cell)),
+        Reached::Beyond(_) => Err(Refusal::Missing),
     }
-    Err(Refusal::Missing)
 }

@@ -1,6 +1,6 @@
 // An internode by value: n ikeys in strictly rising order and one child more. A node goes in by value; where it is changed
-// it comes back in the answer, refused as well. Every call judges its node, and refuses by number. The node, its places and what is inserted are
-// passed on from the crates below.
+// it comes back in the answer, refused as well. Every call judges its node, and refuses by number. The node, its places and what is
+// inserted are passed on from the crates below.
 #![tactic(auto)]
 
 ghost use Rattle.std.specs.Prelude.{◌≡◌, ◌<◌, ◌≤◌, ℕ, true, false, List, MatchResult};

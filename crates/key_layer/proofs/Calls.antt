@@ -98,6 +98,16 @@ module _ (bytes : List ℕ) (i s p : ℕ) (e : true ≡ fits bytes i s p) where
   suffix-passed other u = asked-passed
       (ap (λ (y : Ordering). place y ∷ []) (u ∙ ap (λ (y : List ℕ). bytewise y other) (rest_of bytes p)))
 
+  -- the same of the part that is handed back for the suffix
+  from-start : p ≡ suffix_from bytes i s p
+  unfolding suffix_from
+  from-start = rw (← e)
+
+  pub part-passed : {o : Ordering} {part : List ℕ} (other : List ℕ) → o ≡ bytewise part other → part ≡ drop (suffix_from bytes i s p) bytes
+      → accepted (place o ∷ []) ≡ asked bytes i s p (place (bytewise (drop p bytes) other) ∷ [])
+  part-passed other u w = asked-passed (ap (λ (y : Ordering). place y ∷ [])
+      (u ∙ ap (λ (y : List ℕ). bytewise y other) (w ∙ ap (λ (n : ℕ). drop n bytes) (sym from-start))))
+
   -- a move that is not allowed
   module _ {x : Answer} (u : x ≡ refused Shift (i ∷ s ∷ p ∷ [])) (to : ℕ) where
     pub moved-not : (allowed : Bool) {a : Bool} → a ≡ allowed → a ≡ false → x ≡ moved bytes i s p allowed to

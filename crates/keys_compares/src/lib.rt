@@ -37,5 +37,6 @@ pub fn compare_suffix(
         suffix_start }
 {
     keys_answers::judge(bytes, ikey, shift_count, suffix_start)?;
-    Ok(ikey::inside::compare_parts(&bytes[suffix_start..], other))
+    let suffix = keys_parts::inside::suffix(bytes, ikey, shift_count, suffix_start);
+    Ok(ikey::inside::compare_parts(suffix, other))
 }

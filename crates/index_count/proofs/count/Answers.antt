@@ -4,9 +4,6 @@ use Rattle.std.specs.Prelude.{Ok}
 use Rattle.index_count.proofs.Counting.{counting}
 use Rattle.index_count.proofs.count.Goals as goal
 
-pub returns-in_err-lengths : goal.returns-in_err-lengths
-returns-in_err-lengths c = search counting
-
 pub bounds-nodes-1 : goal.bounds-nodes-1
 bounds-nodes-1 c = let w : c.lengths.result ≡ Ok c.in_ok-lengths.field-0 = c.in_ok-lengths.was in search counting
 

@@ -17,5 +17,5 @@ entry_at-requires c = search answering
 pub returns-in-Here : goal.returns-in-Here
 returns-in-Here c = search answering
 
-pub returns : goal.returns
-returns c = search answering
+pub returns-in-Beyond : goal.returns-in-Beyond
+returns-in-Beyond c = search answering

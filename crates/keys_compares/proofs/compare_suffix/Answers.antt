@@ -1,8 +1,6 @@
 -- `keys_compares::compare_suffix` meets its contract. Assumes nothing.
 use Rattle.std.proofs.lemmas.Result.{err_from_is_err_and}
-use borrow.Author.Rules.{rules}
-use Rattle.key_layer.proofs.Fitting.{judged-withins}
-use Rattle.key_layer.proofs.Calls.{judged-fits, asked-refused, suffix-passed}
+use Rattle.key_layer.proofs.Calls.{judged-fits, asked-refused, part-passed}
 use Rattle.keys_compares.proofs.compare_suffix.Goals as goal
 
 pub returns-in_err-judge : goal.returns-in_err-judge
@@ -10,11 +8,5 @@ returns-in_err-judge c =
     let p = err_from_is_err_and c.from_residual.result c.from_residual.ensures.1 in
     rw (p.1, p.2) (asked-refused _ _ _ _ _ _ _ c.in_err-judge.ensures)
 
-pub slice_bounds-compare_parts-count : goal.slice_bounds-compare_parts-count
-slice_bounds-compare_parts-count c = let e = judged-fits _ _ _ _ c.in_ok-judge.ensures in search (rules, judged-withins, e)
-
-pub slice_bounds-compare_parts-start : goal.slice_bounds-compare_parts-start
-slice_bounds-compare_parts-start c = let e = judged-fits _ _ _ _ c.in_ok-judge.ensures in search (rules, judged-withins, e)
-
 pub returns : goal.returns
-returns c = let e = judged-fits _ _ _ _ c.in_ok-judge.ensures in search (suffix-passed, e)
+returns c = let e = judged-fits _ _ _ _ c.in_ok-judge.ensures in search (part-passed, e)
